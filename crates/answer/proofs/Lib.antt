@@ -1,0 +1,2 @@
+-- The laws of answer/specs.
+pub mod Rules

@@ -1,0 +1,77 @@
+-- The least, the greatest and the total of a list, by their bounds.
+--   least-le, le-least              the least is below each number, and above whatever is below each
+--   le-those, those-le              the greatest of those values that a test picks, likewise
+--   total-append, total-table       the total of two lists, and of a table one value longer
+-- Assumes nothing.
+use mathlib.Core.Path.{_≡_, refl, sym, ap, _∙_}
+use mathlib.Core.Bool.{Bool, true, false, false≢true}
+use mathlib.Core.List.{List, [], _∷_, _++_}
+use mathlib.Core.Logic.{⊎-elim}
+use Prim.Native.Nat.{ℕ, zero, suc, _+_, _≤_, _<_, max, zero-le, suc-le-suc}
+use native.Mathlib.Nat.{not-suc-le-zero, le-of-suc-le-suc, eq-or-lt-of-le, le-refl, le-trans, min-le-left, min-le-right, le-min, le-max-left, le-max-right, max-le}
+use native.Mathlib.Omega.{arith}
+use lib.ListN.{length, getD}
+use Rattle.lists.specs.Tables.{each, keep, table, those}
+use Rattle.lists.specs.Extremes.{least, greatest, total}
+
+-- ---- the least
+
+pub least-le : (l : List ℕ) (j : ℕ) → j < length l → least l ≤ getD l j 0
+unfolding least
+least-le [] j h = absurd (not-suc-le-zero h)
+least-le (x ∷ []) zero h = le-refl x
+least-le (x ∷ []) (suc j) h = absurd (not-suc-le-zero (le-of-suc-le-suc h))
+least-le (x ∷ (y ∷ ys)) zero h = min-le-left x (least (y ∷ ys))
+least-le (x ∷ (y ∷ ys)) (suc j) h = le-trans (min-le-right x (least (y ∷ ys))) (least-le (y ∷ ys) j (le-of-suc-le-suc h))
+
+pub le-least : (k : ℕ) (l : List ℕ) → 0 < length l → ((j : ℕ) → j < length l → k ≤ getD l j 0) → k ≤ least l
+unfolding least
+le-least k [] h a = absurd (not-suc-le-zero h)
+le-least k (x ∷ []) h a = a 0 h
+le-least k (x ∷ (y ∷ ys)) h a = le-min (a 0 (omega arith)) (le-least k (y ∷ ys) (omega arith) (λ j l. a (suc j) (suc-le-suc l)))
+
+-- ---- the greatest
+
+pub greatest-append : (s t : List ℕ) → greatest (s ++ t) ≡ max (greatest s) (greatest t)
+unfolding greatest
+greatest-append [] t = omega arith
+greatest-append (x ∷ s) t = ap (max x) (greatest-append s t) ∙ omega arith
+
+greatest-keep : (b : Bool) (x : ℕ) → b ≡ true → x ≤ greatest (keep b x)
+unfolding greatest
+greatest-keep true x e = le-max-left x 0
+greatest-keep false x e = absurd (false≢true e)
+
+keep-le : (b : Bool) (x k : ℕ) → (b ≡ true → x ≤ k) → greatest (keep b x) ≤ k
+unfolding greatest
+keep-le true x k h = max-le (h refl) zero-le
+keep-le false x k h = zero-le
+
+pub le-those : (p : ℕ → Bool) (g : ℕ → ℕ) (n i : ℕ) → i < n → p i ≡ true → g i ≤ greatest (those p g n)
+unfolding each
+le-those p g zero i h e = absurd (not-suc-le-zero h)
+le-those p g (suc n) i h e =
+    let s : greatest (those p g n ++ keep (p n) (g n)) ≡ max (greatest (those p g n)) (greatest (keep (p n) (g n))) =
+    greatest-append (those p g n) (keep (p n) (g n)) in
+    ⊎-elim
+    (λ q. let l : g n ≤ greatest (keep (p n) (g n)) = greatest-keep (p n) (g n) (rw q at e) in rw q (omega arith))
+    (λ q. let l : g i ≤ greatest (those p g n) = le-those p g n i q e in omega arith)
+    (eq-or-lt-of-le (le-of-suc-le-suc h))
+
+pub those-le : (p : ℕ → Bool) (g : ℕ → ℕ) (n k : ℕ) → ((i : ℕ) → i < n → p i ≡ true → g i ≤ k) → greatest (those p g n) ≤ k
+unfolding each greatest
+those-le p g zero k a = zero-le
+those-le p g (suc n) k a =
+    rw (greatest-append (those p g n) (keep (p n) (g n)))
+    (max-le (those-le p g n k (λ i h e. a i (omega arith) e)) (keep-le (p n) (g n) k (a n (omega arith))))
+
+-- ---- the total
+
+pub total-append : (s t : List ℕ) → total (s ++ t) ≡ total s + total t
+unfolding total
+total-append [] t = omega arith
+total-append (x ∷ s) t = omega (arith, total-append s t)
+
+pub total-table : (g : ℕ → ℕ) (n : ℕ) → total (table g (suc n)) ≡ total (table g n) + g n
+unfolding each total
+total-table g n = total-append (table g n) (g n ∷ []) ∙ omega arith

@@ -1,0 +1,9 @@
+-- The laws of lists/specs, for every crate above.
+--   Cases       the two cases of an order; what a conjunction of tests says
+--   Tables      lengths and values of tables
+--   Extremes    least, greatest and total by their bounds
+--   Stores      a storing loop: none stored, one more, one stretch after another
+pub mod Cases
+pub mod Tables
+pub mod Extremes
+pub mod Stores
