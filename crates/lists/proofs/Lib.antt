@@ -3,7 +3,9 @@
 --   Tables      lengths and values of tables
 --   Extremes    least, greatest and total by their bounds
 --   Stores      a storing loop: none stored, one more, one stretch after another
+--   Picks       lists of those numbers that a test picks: what stands in them, and what they are
 pub mod Cases
 pub mod Tables
 pub mod Extremes
 pub mod Stores
+pub mod Picks

@@ -1,0 +1,123 @@
+// The lines of a frame in one direction, in unsigned numbers.
+use crate::direction::Direction;
+use crate::shape::Shape;
+use crate::signed::opposed;
+use crate::signed::size;
+ghost use mathlib.Core.Path.{_≡_};
+ghost use mathlib.Core.Bool.{true};
+ghost use Prim.Native.Nat.{_≤_, _<_};
+ghost use Rattle.frame.specs.Direction.{isDirection};
+ghost use Rattle.frame.specs.Shape.{isFrame};
+ghost use Rattle.frame.specs.Lines.{r};
+ghost use Rattle.frame.specs.Sweep.{sweepOf, sweepFor, shift, low, hit, cell, Sane};
+
+// How many major and minor coordinates there are, how far apart their pixels are in the frame's bytes, the slope, and how far a line moves aside
+// from its first major coordinate to the last.
+pub struct Sweep {
+    pub majors: usize,
+    pub minors: usize,
+    pub major: usize,
+    pub minor: usize,
+    pub run: usize,
+    pub rise: usize,
+    pub falling: bool,
+    pub top: usize,
+}
+
+const NONE: Sweep = Sweep {
+    majors: 0,
+    minors: 0,
+    major: 0,
+    minor: 0,
+    run: 0,
+    rise: 0,
+    falling: false,
+    top: 0,
+};
+
+// How many minor steps a line has made at a major coordinate, rounded.
+fn rounded(run: usize, rise: usize, i: usize) -> usize
+    requires { ⌜ (1 ≤ run) × (run ≤ 255) × (rise ≤ run) × (i ≤ 4095) ⌝ }
+    ensures { λ n. ⌜ n ≡ r run rise i ⌝ }
+{
+    (2 * i * rise + run) / (2 * run)
+}
+
+// The sweep of an accepted frame in an accepted direction.
+pub(crate) fn swept(shape: Shape, d: Direction) -> Sweep
+    requires { ⌜ (isFrame shape ≡ true) × (isDirection d ≡ true) ⌝ }
+    ensures { λ s. ⌜ s ≡ sweepOf shape d ⌝ }
+{
+    let width = shape.width;
+    let height = shape.height;
+    let stride = shape.stride;
+    let p = d.p;
+    let q = d.q;
+    let a = size(p);
+    let b = size(q);
+    let falling = opposed(p, q);
+    if b <= a {
+        let top = rounded(a, b, width - 1);
+        return Sweep {
+            majors: width,
+            minors: height,
+            major: 1,
+            minor: stride,
+            run: a,
+            rise: b,
+            falling,
+            top,
+        };
+    }
+    let top = rounded(b, a, height - 1);
+    Sweep {
+        majors: height,
+        minors: width,
+        major: stride,
+        minor: 1,
+        run: b,
+        rise: a,
+        falling,
+        top,
+    }
+}
+
+// The sweep of a frame in a direction; one without a line where rule 1 or 2 refuses them.
+pub fn sweep_of(shape: Shape, d: Direction) -> Sweep
+    ensures { λ s. ⌜ s ≡ sweepFor shape d ⌝ }
+{
+    if !shape.is_frame() {
+        return NONE;
+    }
+    if !d.is_direction() {
+        return NONE;
+    }
+    swept(shape, d)
+}
+
+// How far below 0 the lowest line number is.
+pub(crate) fn low_of(s: Sweep) -> usize
+    ensures { λ n. ⌜ n ≡ low s ⌝ }
+{
+    let falling = s.falling;
+    if falling { 0 } else { s.top }
+}
+
+// The index of the line of the pixel (i, 0).
+fn shifted(s: Sweep, i: usize) -> usize
+    requires { ⌜ Sane s × (i < s .majors) ⌝ }
+    ensures { λ t. ⌜ t ≡ shift s i ⌝ }
+{
+    let falling = s.falling;
+    let n = rounded(s.run, s.rise, i);
+    if falling { n } else { s.top - n }
+}
+
+// The byte of line u's pixel at major coordinate i.
+pub(crate) fn cell_of(s: Sweep, u: usize, i: usize) -> usize
+    requires { ⌜ Sane s × (i < s .majors) × (hit s u i ≡ true) ⌝ }
+    ensures { λ n. ⌜ n ≡ cell s u i ⌝ }
+{
+    let t = shifted(s, i);
+    i * s.major + (u - t) * s.minor
+}
