@@ -12,3 +12,5 @@ pub mod Examples
 pub mod Scatters
 pub mod Partition
 pub mod ByLines
+pub mod Tracks
+pub mod Calls

@@ -1,6 +1,8 @@
 -- Document 01 on the lines of a frame, as theorems about its definitions.
 --   its-line, on-its-line    'Every pixel of a frame is on exactly one line.'
 --   line-interval            a line's pixels are an interval of the major coordinate
+--   first-is, count-is       the number and the count of the lines, by the sweep
+--   pixels-past              a line past the last has no pixels; empty-none, empty-some: what no pixels say
 --   line-among, among-line   the numbers of the lines that a frame has are an interval: lineCount of them from firstLine on
 -- Assumes nothing.
 use mathlib.Core.Path.{_≡_, refl, sym, ap, ap₂, _∙_, subst}
@@ -10,7 +12,8 @@ use mathlib.Core.List.{List, [], _∷_, map, List·Memᴰ, List·Memᴰ·head, L
 use Prim.Native.Nat.{ℕ, zero, suc, _+_, _-_, _≤_, _<_, zero-le}
 use native.Mathlib.Omega.{arith}
 use borrow.Author.Tests.{le-ltb}
-use lib.IntN.{ℤ, pos, negℤ, natAbs, subℕ, _+ℤ_}
+use lib.ListN.{length}
+use lib.IntN.{ℤ, pos, negℤ, natAbs, subℕ, _+ℤ_, +ℤ-idr}
 use Rattle.lists.specs.Tables.{each, table}
 use Rattle.lists.proofs.Cases.{less-or-not}
 use Rattle.lists.proofs.Picks.{each-mem, each-in, keep-mem, those-in}
@@ -83,13 +86,17 @@ on-its-line sh d x y h l = go (shallow d) refl
 
 -- ---- the lines of an accepted frame and direction
 
-pub empty-none : (cs : List Pixel) → empty cs ≡ true → cs ≡ []
+pub empty-none : (cs : List Pixel) → length cs ≡ 0 → empty cs ≡ true
 empty-none [] e = refl
-empty-none (c ∷ cs) e = absurd (true≢false (sym e))
+empty-none (c ∷ cs) e = absurd (omega arith)
 
-pub empty-some : (cs : List Pixel) (c : Pixel) → List·Memᴰ c cs → empty cs ≡ false
-empty-some [] c m = absurd (List·Memᴰ·not-nil m)
-empty-some (b ∷ cs) c m = refl
+pub empty-some : (cs : List Pixel) → (length cs ≡ 0 → ⊥) → empty cs ≡ false
+empty-some [] h = absurd (h refl)
+empty-some (c ∷ cs) h = refl
+
+pub empty-not : (cs : List Pixel) (c : Pixel) → List·Memᴰ c cs → empty cs ≡ false
+empty-not [] c m = absurd (List·Memᴰ·not-nil m)
+empty-not (b ∷ cs) c m = refl
 
 map-none : (h : Pixel → ℕ) (cs : List Pixel) → map h cs ≡ [] → cs ≡ []
 map-none h [] e = refl
@@ -127,7 +134,10 @@ number sh d u = go (shallow d) refl (opposite d) refl
     go false e true f = rw (e, f) (down 0)
     go false e false f = rw (e, f) (down (r (natAbs (d .q)) (natAbs (d .p)) (sh .height - 1)))
 
-count-is : (sh : Shape) (d : Direction) → lineCount sh d ≡ lines (sweepOf sh d)
+pub first-is : (sh : Shape) (d : Direction) → firstLine sh d ≡ subℕ 0 (low (sweepOf sh d))
+first-is sh d = sym (+ℤ-idr (firstLine sh d)) ∙ number sh d 0
+
+pub count-is : (sh : Shape) (d : Direction) → lineCount sh d ≡ lines (sweepOf sh d)
 unfolding sweepOf
 count-is sh d = go (shallow d) refl
   where
@@ -136,9 +146,8 @@ count-is sh d = go (shallow d) refl
     go false e = rw e
 
 module _ (sh : Shape) (d : Direction) (f : isFrame sh ≡ true) (v : isDirection d ≡ true) where
-  -- no pixels of a line past the last
-  past : (u : ℕ) → lines (sweepOf sh d) ≤ u → pixels sh d (subℕ u (low (sweepOf sh d))) ≡ []
-  past u h =
+  pub pixels-past : (u : ℕ) → lines (sweepOf sh d) ≤ u → pixels sh d (subℕ u (low (sweepOf sh d))) ≡ []
+  pixels-past u h =
       map-none (place sh) (pixels sh d (subℕ u (low (sweepOf sh d))))
       (places-are sh d (directed d v .some) u ∙ past-lines (sweepOf sh d) (sweep-sane sh d (framed sh f) (directed d v)) u h)
 
@@ -163,7 +172,7 @@ module _ (sh : Shape) (d : Direction) (f : isFrame sh ≡ true) (v : isDirection
                 ∙ pixels-span sh d (directed d v .some) u (spanFrom s u 1) (spanEnd s u 1 - spanFrom s u 1)
                 (spans s (sweep-sane sh d (framed sh f) (directed d v)) u 1 h (omega arith));
           })
-          (λ h. nothing (ap (pixels sh d) (sym (x .is)) ∙ past u h))
+          (λ h. nothing (ap (pixels sh d) (sym (x .is)) ∙ pixels-past u h))
           (less-or-not u (lines s))
       go (inr none) = nothing (pixels-none sh d (directed d v .some) k none)
 
@@ -174,7 +183,7 @@ module _ (sh : Shape) (d : Direction) (f : isFrame sh ≡ true) (v : isDirection
       go (inl x) =
           ⊎-elim
           (λ h. record { u = x .u; below = omega (arith, count-is sh d); is = number sh d (x .u) ∙ x .is })
-          (λ h. absurd (true≢false (sym (ap empty (ap (pixels sh d) (sym (x .is)) ∙ past (x .u) h)) ∙ e)))
+          (λ h. absurd (true≢false (sym (ap empty (ap (pixels sh d) (sym (x .is)) ∙ pixels-past (x .u) h)) ∙ e)))
           (less-or-not (x .u) (lines (sweepOf sh d)))
       go (inr none) = absurd (true≢false (sym (ap empty (pixels-none sh d (directed d v .some) k none)) ∙ e))
 
@@ -184,5 +193,5 @@ module _ (sh : Shape) (d : Direction) (f : isFrame sh ≡ true) (v : isDirection
       let q : subℕ (a .u) (low s) ≡ k = sym (number sh d (a .u)) ∙ a .is in
       let p = line-some s (sweep-sane sh d (framed sh f) (directed d v)) (a .u) (omega (arith, a .below, count-is sh d)) in
       let m = those-in (hit s (a .u)) (λ (i : ℕ). spot d i (a .u - shift s i)) (s .majors) (p .i) (p .below) (p .on) in
-      empty-some (pixels sh d k) (spot d (p .i) (a .u - shift s (p .i)))
+      empty-not (pixels sh d k) (spot d (p .i) (a .u - shift s (p .i)))
       (subst (List·Memᴰ (spot d (p .i) (a .u - shift s (p .i)))) (sym (pixels-are sh d (directed d v .some) (a .u)) ∙ ap (pixels sh d) q) m)

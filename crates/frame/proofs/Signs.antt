@@ -1,19 +1,22 @@
 -- Signed numbers at the machine's edge: what a sign and a size ask of 64 bits.
 --   back                      a number that went through its bits is itself
---   below-zero, above-zero    a number below 0 and its size; a number that is not
---   size-steep, minus-fits    a size that fits, and a negation that does
+--   below-zero, not-below     a number below 0, and one that is not
+--   size-most, minus-fits     a size that fits, and a negation that does
+--   steeper, not-steeper      the test of a size, as the definitions make it
 -- Assumes nothing.
 use mathlib.Core.Path.{_≡_, refl, ap, _∙_, subst}
 use mathlib.Core.Bool.{Bool, true, false, true≢false}
 use Prim.Native.Nat.{ℕ, zero, suc, _+_, _-_, _^_, _≤_, _<_, zero-le}
 use native.Mathlib.Omega.{arith}
 use native.Mathlib.Nat.{lt-irrefl, lt-of-lt-of-le}
-use borrow.Author.Tests.{ltb-true, le-ltb}
+use borrow.Author.Tests.{ltb-true, ltb-false, le-ltb, le-leb, lt-leb}
+use lib.Dec.{T, leb, ltb}
 use lib.IntN.{ℤ, pos, negsuc, negℤ, natAbs, _-ℤ_, +ℤ-idl}
-use lib.Signed.{mag, ltZ}
+use lib.Signed.{mag, ltZ, nonNeg}
 use mir.Syntax.{w64}
 use mir.Val.{SFits, toZ, ofZ}
 use mir.Facts.{toZ-ofZ}
+use Rattle.answer.specs.Limits.{steepest}
 
 pub back : (z : ℤ) → mag z < 2 ^ 63 → toZ w64 (ofZ w64 z) ≡ z
 back z h = toZ-ofZ (record { sfits = h })
@@ -22,18 +25,24 @@ pub below-zero : (z : ℤ) → ltZ z (pos 0) ≡ true → (negsuc 0 -ℤ z ≡ p
 below-zero (pos n) e = absurd (lt-irrefl n (lt-of-lt-of-le (ltb-true n 0 e) zero-le))
 below-zero (negsuc n) e = (rw (le-ltb (suc n) 1 (omega arith)) (ap pos (omega arith)), omega arith)
 
-pub above-zero : (z : ℤ) → ltZ z (pos 0) ≡ false → (z ≡ pos (mag z)) × (natAbs z ≡ mag z)
-above-zero (pos n) e = (refl, refl)
-above-zero (negsuc n) e = absurd (true≢false e)
+pub not-below : (z : ℤ) → ltZ z (pos 0) ≡ false → T (nonNeg z)
+not-below (pos n) e = tt
+not-below (negsuc n) e = absurd (true≢false e)
 
 pub size-most : (z : ℤ) → mag z < 2 ^ 63 → natAbs z ≤ 9223372036854775808
 size-most (pos n) h = omega arith
 size-most (negsuc n) h = omega arith
 
-pub minus-fits : (z : ℤ) → natAbs z ≤ 255 → SFits w64 (pos 0 -ℤ z)
+pub minus-fits : (z : ℤ) → natAbs z ≤ 4095 → SFits w64 (pos 0 -ℤ z)
 minus-fits z h = rw +ℤ-idl (go z h)
   where
-    go : (z : ℤ) → natAbs z ≤ 255 → SFits w64 (negℤ z)
+    go : (z : ℤ) → natAbs z ≤ 4095 → SFits w64 (negℤ z)
     go (pos zero) h = record { sfits = omega arith }
     go (pos (suc n)) h = record { sfits = omega arith }
     go (negsuc n) h = record { sfits = omega arith }
+
+pub steeper : {n m : ℕ} → ltb steepest n ≡ true → n ≡ m → leb m steepest ≡ false
+steeper {n} {m} e q = lt-leb m steepest (omega (arith, ltb-true steepest n e))
+
+pub not-steeper : {n m : ℕ} → ltb steepest n ≡ false → n ≡ m → leb m steepest ≡ true
+not-steeper {n} {m} e q = le-leb m steepest (omega (arith, ltb-false steepest n e))

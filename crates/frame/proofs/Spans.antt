@@ -1,6 +1,7 @@
 -- At which major coordinates lines have their pixels: a stretch, whose ends are found by division.
 --   passed-is, skipped-is     the first coordinate at which more than so many minor steps are made
 --   shift-falling, shift-rising, shift-le    by the slope's sign; a line moves aside by at most `top`
+--   from-falling, end-falling, from-rising, end-rising    its ends, by the slope's sign
 --   span-ordered, spans       the stretch of the c lines from u on
 --   cells-span, pixels-span   a line's bytes and pixels, by its stretch
 --   past-lines, line-some     a line of an index past the last has no pixel, and every line below has one
@@ -146,20 +147,20 @@ record Ends (s : Sweep) (u c from end : ℕ) : Type 0 where
   behind : (i : ℕ) → end ≤ i → i < s .majors → touched s u c i ≡ false
 
 module _ (s : Sweep) (u c : ℕ) (f : s .falling ≡ true) where
-  from-falling : spanFrom s u c ≡ skipped (s .run) (s .rise) (s .majors) (s .minors) u
+  pub from-falling : spanFrom s u c ≡ skipped (s .run) (s .rise) (s .majors) (s .minors) u
   unfolding spanFrom
   from-falling = rw f
 
-  end-falling : spanEnd s u c ≡ passed (s .run) (s .rise) (s .majors) (u + c - 1)
+  pub end-falling : spanEnd s u c ≡ passed (s .run) (s .rise) (s .majors) (u + c - 1)
   unfolding spanEnd
   end-falling = rw f
 
 module _ (s : Sweep) (u c : ℕ) (f : s .falling ≡ false) where
-  from-rising : spanFrom s u c ≡ skipped (s .run) (s .rise) (s .majors) (u + c) (s .top)
+  pub from-rising : spanFrom s u c ≡ skipped (s .run) (s .rise) (s .majors) (u + c) (s .top)
   unfolding spanFrom
   from-rising = rw f
 
-  end-rising : spanEnd s u c ≡ passed (s .run) (s .rise) (s .majors) (lines s - u - 1)
+  pub end-rising : spanEnd s u c ≡ passed (s .run) (s .rise) (s .majors) (lines s - u - 1)
   unfolding spanEnd
   end-rising = rw f
 

@@ -12,7 +12,7 @@ pub struct Direction {
 
 // The sixteen numbered directions.
 const NUMBERED: [Direction; 16] = [
-    Direction { p: 1, q: 0 },
+    Direction::Along,
     Direction { p: 4, q: 1 },
     Direction { p: 2, q: 1 },
     Direction { p: 4, q: 3 },
@@ -20,7 +20,7 @@ const NUMBERED: [Direction; 16] = [
     Direction { p: 3, q: 4 },
     Direction { p: 1, q: 2 },
     Direction { p: 1, q: 4 },
-    Direction { p: 0, q: 1 },
+    Direction::Across,
     Direction { p: -1, q: 4 },
     Direction { p: -1, q: 2 },
     Direction { p: -3, q: 4 },
@@ -82,9 +82,9 @@ impl Direction {
         if is_steeper(q) {
             return false;
         }
-        if p == 0 {
-            return q != 0;
+        if size(p) != 0 {
+            return true;
         }
-        true
+        size(q) != 0
     }
 }

@@ -18,7 +18,7 @@ pub struct Span {
 
 // The first major coordinate at which a line has made more than x minor steps; `majors` where there is none.
 fn past(run: usize, rise: usize, majors: usize, x: usize) -> usize
-    requires { ⌜ (1 ≤ run) × (run ≤ 255) × (x ≤ 32768) ⌝ }
+    requires { ⌜ (1 ≤ run) × (run ≤ 255) × (rise ≤ run) × (x ≤ 32768) ⌝ }
     ensures { λ e. ⌜ e ≡ passed run rise majors x ⌝ }
 {
     if rise == 0 {
@@ -33,7 +33,7 @@ fn past(run: usize, rise: usize, majors: usize, x: usize) -> usize
 
 // The first major coordinate at which the minor steps and `more` are above `most`.
 fn skip(run: usize, rise: usize, majors: usize, more: usize, most: usize) -> usize
-    requires { ⌜ (1 ≤ run) × (run ≤ 255) × (most ≤ 32768) ⌝ }
+    requires { ⌜ (1 ≤ run) × (run ≤ 255) × (rise ≤ run) × (most ≤ 32768) ⌝ }
     ensures { λ b. ⌜ b ≡ skipped run rise majors more most ⌝ }
 {
     if most < more {
