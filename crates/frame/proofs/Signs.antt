@@ -1,7 +1,7 @@
 -- Signed numbers at the machine's edge: what a sign and a size ask of 64 bits.
 --   back                      a number that went through its bits is itself
 --   below-zero, not-below     a number below 0, and one that is not
---   size-most, minus-fits     a size that fits, and a negation that does
+--   size-most, minus-fits, lowest-fits    a size that fits, and a negation that does
 --   steeper, not-steeper      the test of a size, as the definitions make it
 -- Assumes nothing.
 use mathlib.Core.Path.{_≡_, refl, ap, _∙_, subst}
@@ -11,12 +11,13 @@ use native.Mathlib.Omega.{arith}
 use native.Mathlib.Nat.{lt-irrefl, lt-of-lt-of-le}
 use borrow.Author.Tests.{ltb-true, ltb-false, le-ltb, le-leb, lt-leb}
 use lib.Dec.{T, leb, ltb}
-use lib.IntN.{ℤ, pos, negsuc, negℤ, natAbs, _-ℤ_, +ℤ-idl}
+use lib.IntN.{ℤ, pos, negsuc, negℤ, natAbs, subℕ, _-ℤ_, +ℤ-idl}
 use lib.Signed.{mag, ltZ, nonNeg}
 use mir.Syntax.{w64}
 use mir.Val.{SFits, toZ, ofZ}
 use mir.Facts.{toZ-ofZ}
 use Rattle.answer.specs.Limits.{steepest}
+use Rattle.frame.proofs.Numbers.{minus-is}
 
 pub back : (z : ℤ) → mag z < 2 ^ 63 → toZ w64 (ofZ w64 z) ≡ z
 back z h = toZ-ofZ (record { sfits = h })
@@ -40,6 +41,9 @@ minus-fits z h = rw +ℤ-idl (go z h)
     go (pos zero) h = record { sfits = omega arith }
     go (pos (suc n)) h = record { sfits = omega arith }
     go (negsuc n) h = record { sfits = omega arith }
+
+pub lowest-fits : (n : ℕ) → n ≤ 4095 → SFits w64 (subℕ 0 n)
+lowest-fits n h = subst (SFits w64) (minus-is 0 n) (minus-fits (pos n) h)
 
 pub steeper : {n m : ℕ} → ltb steepest n ≡ true → n ≡ m → leb m steepest ≡ false
 steeper {n} {m} e q = lt-leb m steepest (omega (arith, ltb-true steepest n e))

@@ -1,23 +1,26 @@
 -- Where a line has its pixels, found from its number.
 --   tracks-none    a number that is no line's
 --   tracks-some    a line's
+--   tracks-values  the bytes of a frame there are the line as read
 -- Assumes nothing.
 use mathlib.Core.Path.{_≡_, sym, ap, _∙_, subst}
 use mathlib.Core.Bool.{true}
-use mathlib.Core.List.{List, [], map}
+use mathlib.Core.List.{List, [], map, map-map}
 use Prim.Native.Nat.{ℕ, _+_, _<_}
 use native.Mathlib.Omega.{arith}
-use lib.ListN.{length, length-map}
+use lib.ListN.{length, getD, length-map}
 use lib.IntN.{ℤ, subℕ}
 use Rattle.lists.specs.Tables as tables
 use Rattle.lists.specs.Tables.{table}
 use Rattle.lists.proofs.Tables.{length-table}
+use Rattle.lists.proofs.Picks.{map-table}
 use Rattle.frame.specs.declared.direction.Direction.{Direction}
 use Rattle.frame.specs.declared.shape.Shape.{Shape}
 use Rattle.frame.specs.declared.span.Span.{Span}
+use Rattle.frame.specs.declared.track.Track.{Track}
 use Rattle.frame.specs.Direction.{isDirection}
 use Rattle.frame.specs.Shape.{isFrame}
-use Rattle.frame.specs.Lines.{Pixel, pixels, place}
+use Rattle.frame.specs.Lines.{pixels, place, lineRead}
 use Rattle.frame.specs.Sweep.{sweepOf, low, lines, cell, Sane}
 use Rattle.frame.specs.Span.{spanning, Spans, Tracks}
 use Rattle.frame.proofs.Shapes.{framed, directed, sweep-sane}
@@ -52,3 +55,10 @@ module _ (sh : Shape) (d : Direction) (f : isFrame sh ≡ true) (v : isDirection
 
       q : map (place sh) (pixels sh d k) ≡ table (λ (i : ℕ). cell (sweepOf sh d) u (w .from + i)) (w .count)
       q = ap (λ (z : ℤ). map (place sh) (pixels sh d z)) (sym e) ∙ places-are sh d (directed d v .some) u ∙ cells-span p
+
+pub tracks-values : {sh : Shape} {d : Direction} {k : ℤ} {t : Track} → Tracks sh d k t → (f : List ℕ)
+    → table (λ (i : ℕ). getD f (cell (sweepOf sh d) (t .index) (t .from + i)) 0) (t .count) ≡ lineRead f sh d k
+tracks-values {sh} {d} {k} {t} p f =
+    sym (map-table (λ (c : ℕ). getD f c 0) (λ (i : ℕ). cell (sweepOf sh d) (t .index) (t .from + i)) (t .count))
+    ∙ ap (map (λ (c : ℕ). getD f c 0)) (sym (p .places))
+    ∙ map-map (λ (c : ℕ). getD f c 0) (place sh) (pixels sh d k)
