@@ -1,6 +1,6 @@
 -- What an accepted frame, an accepted direction and their sweep keep to.
 --   framed, directed            the ranges, from the tests
---   needed-small                a frame's bytes fit
+--   needed-small, needed-by     a frame's bytes fit, and are those that `bytes` hands back
 --   sweep-sane, sweep-apart     the sweep of an accepted frame and direction
 --   sweep-reach                 its last pixel is within the bytes that the frame needs
 --   top-le, low-le              its lines move aside by less than a side
@@ -73,6 +73,9 @@ directed d e =
 
 pub needed-small : {sh : Shape} → Framed sh → (sh .height - 1) * sh .stride ≤ 4095 * 65535
 needed-small {sh} f = mul-le-mul {n₁ = sh .height - 1} {m₁ = sh .stride} {n₂ = 4095} {m₂ = 65535} (omega (arith, f)) (f .most)
+
+pub needed-by : (sh : Shape) → isFrame sh ≡ true → cond (isFrame sh) (needed sh) 0 ≡ needed sh
+needed-by sh e = rw e
 
 -- ---- the sweep
 

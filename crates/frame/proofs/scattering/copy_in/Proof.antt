@@ -89,7 +89,7 @@ loop-again c =
       omega arith,
       length-set (l .dst) (at .result) (getD (a .src .now) (l .i) 0) ∙ l .inv .1,
       ap₂ (λ (g : List ℕ) (n : ℕ). set g n (getD (a .src .now) (l .i) 0)) (l .inv .2) (at .ensures)
-      ∙ stores (a .src .now) (a .dst .now) (a .s) (a .t .index) (a .t .from) (l .i) (omega (arith, pre .3)),
+          ∙ stores (a .src .now) (a .dst .now) (a .s) (a .t .index) (a .t .from) (l .i) (omega (arith, pre .3)),
     )
 
 same-length : tie.Need-same-length Inv-loop μ-loop
