@@ -4,7 +4,7 @@
 --   at-place        a line's pixel has the value at its place on the line
 --   own-value       each pixel of the frame has the value at its place on its own line
 -- Assumes nothing.
-use mathlib.Core.Path.{_≡_, refl, sym, ap, ap₂, _∙_, subst}
+use mathlib.Core.Path.{_≡_, refl, sym, ap, _∙_, subst}
 use mathlib.Core.Bool.{Bool, true, false}
 use mathlib.Core.Logic.{_⊎_, inl, inr}
 use mathlib.Core.List.{List, [], _∷_, map, List·Memᴰ, List·Memᴰ·not-nil, List·Memᴰ·cases-cons}
@@ -21,7 +21,7 @@ use Rattle.frame.specs.declared.shape.Shape.{Shape}
 use Rattle.frame.specs.Direction.{isDirection, shallow, opposite}
 use Rattle.frame.specs.Lines.{lineOf, Pixel, at, pixels, place, gathered, lineRead}
 use Rattle.frame.specs.ByLines.{ByLines}
-use Rattle.frame.specs.Sweep.{sweeping, sweepOf, shift, low, hit, cell, cells, valuesAt, Swept}
+use Rattle.frame.specs.Sweep.{sweeping, sweepOf, shift, low, hit, cell, cells, Swept}
 use Rattle.frame.proofs.Numbers.{Index, indexed}
 use Rattle.frame.proofs.Shapes.{directed}
 use Rattle.frame.proofs.Walks.{hits, cells-mem, pixels-none, values-are}

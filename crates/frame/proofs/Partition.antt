@@ -1,23 +1,31 @@
 -- No two pixels of a frame share a byte, and lines that are treated one after the other do not touch each other.
 --   same-cell               one byte, one pixel
---   disjoint, distinct      two lines have no byte in common, and a line has each of its bytes once
+--   disjoint, distinct, line-once    two lines have no byte in common, and a line has each of its bytes once
 --   Partly                  the lines below u are treated, and what is on no line is as it was
 --   partly-none, partly-more, partly-all    no line yet, one line more, and every line
 -- Assumes nothing.
 use mathlib.Core.Path.{_≡_, refl, sym, ap, _∙_, subst}
 use mathlib.Core.Bool.{Bool, true, false}
-use mathlib.Core.Logic.{inl, inr, ⊎-elim}
-use mathlib.Core.List.{List, [], _∷_, List·Memᴰ, append-nil}
+use mathlib.Core.Logic.{_⊎_, inl, inr, ⊎-elim}
+use mathlib.Core.List.{List, [], _∷_, map, List·Memᴰ, append-nil}
 use Prim.Native.Nat.{ℕ, zero, suc, _+_, _-_, _*_, _≤_, _<_}
 use native.Mathlib.Omega.{arith}
 use lib.ListN.{length, getD, length-map}
+use lib.IntN.{ℤ, natAbs, subℕ}
 use Rattle.lists.specs.Tables as tables
 use Rattle.lists.proofs.Cases.{less-or-not}
+use Rattle.frame.specs.declared.direction.Direction.{Direction}
+use Rattle.frame.specs.declared.shape.Shape.{Shape}
 use Rattle.frame.specs.declared.sweep.Sweep.{Sweep}
+use Rattle.frame.specs.Direction.{isDirection}
+use Rattle.frame.specs.Shape.{isFrame}
+use Rattle.frame.specs.Lines.{pixels, place}
 use Rattle.frame.specs.Scattering.{stored}
-use Rattle.frame.specs.Sweep.{shift, lines, hit, cell, cells, valuesAt, Sane, Reach, Apart, Swept}
+use Rattle.frame.specs.Sweep.{sweepOf, low, shift, lines, hit, cell, cells, valuesAt, Sane, Reach, Apart, Swept}
 use Rattle.frame.proofs.Scatters.{flat, Distinct, distinct-next, stored-length, stored-off, stored-on, stored-apart}
-use Rattle.frame.proofs.Walks.{hits, cells-mem, cell-reach}
+use Rattle.frame.proofs.Numbers.{Index, indexed}
+use Rattle.frame.proofs.Shapes.{framed, directed, sweep-apart}
+use Rattle.frame.proofs.Walks.{hits, cells-mem, cell-reach, places-are, pixels-none}
 use Rattle.frame.proofs.Spans.{past-lines}
 
 pub same-cell : (s : Sweep) → Apart s → (u v i j : ℕ) → i < s .majors → j < s .majors → hit s u i ≡ true → hit s v j ≡ true → cell s u i ≡ cell s v j → (i ≡ j) × (u ≡ v)
@@ -61,6 +69,19 @@ module _ (s : Sweep) (far : Apart s) where
           let q = same-cell s far u u n (a .i) (omega arith) (omega (arith, a .below)) e (a .passed) (a .is) .0 in
           omega (arith, q, a .below)))
       go d false e = rw (e, append-nil) d
+
+-- a line of an accepted frame has each of its bytes once
+pub line-once : (sh : Shape) (d : Direction) → isFrame sh ≡ true → isDirection d ≡ true → (k : ℤ) → Distinct (map (place sh) (pixels sh d k))
+line-once sh d f v k = go (indexed (low (sweepOf sh d)) k)
+  where
+    some : 1 ≤ natAbs (d .p) + natAbs (d .q)
+    some = directed d v .some
+
+    go : Index (low (sweepOf sh d)) k ⊎ ((u : ℕ) → subℕ u (low (sweepOf sh d)) ≡ k → ⊥) → Distinct (map (place sh) (pixels sh d k))
+    go (inl x) =
+        subst Distinct (sym (places-are sh d some (x .u)) ∙ ap (λ (z : ℤ). map (place sh) (pixels sh d z)) (x .is))
+        (distinct (sweepOf sh d) (sweep-apart sh d (framed sh f)) (x .u) (sweepOf sh d .majors) (omega arith))
+    go (inr none) = rw (pixels-none sh d some k none) tt
 
 -- ---- one line after the other
 

@@ -1,5 +1,5 @@
 -- Document 01 on the lines of a frame, as theorems about its definitions.
---   its-line, on-its-line    'Every pixel of a frame is on exactly one line.'
+--   exactly-one-line         'Every pixel of a frame is on exactly one line.' Its two halves: on-its-line, its-line
 --   line-interval            a line's pixels are an interval of the major coordinate
 --   first-is, count-is       the number and the count of the lines, by the sweep
 --   pixels-past              a line past the last has no pixels; empty-none, empty-some: what no pixels say
@@ -19,14 +19,13 @@ use Rattle.lists.proofs.Cases.{less-or-not}
 use Rattle.lists.proofs.Picks.{each-mem, each-in, keep-mem, those-in}
 use Rattle.frame.specs.declared.direction.Direction.{Direction}
 use Rattle.frame.specs.declared.shape.Shape.{Shape}
-use Rattle.frame.specs.declared.sweep.Sweep.{Sweep}
 use Rattle.frame.specs.Direction.{isDirection, shallow, opposite}
 use Rattle.frame.specs.Shape.{isFrame}
 use Rattle.frame.specs.Lines.{r, lineOf, eqZ, Pixel, at, onLine, pixels, place, empty, noLine, firstLine, lineCount}
 use Rattle.frame.specs.Sweep.{sweepOf, shift, low, lines, hit}
 use Rattle.frame.specs.Span.{spanFrom, spanEnd}
-use Rattle.frame.proofs.Numbers.{eqZ-true, eqZ-same, sub-shift, Index, indexed}
-use Rattle.frame.proofs.Shapes.{Framed, framed, Directed, directed, sweep-sane}
+use Rattle.frame.proofs.Numbers.{eqZ-true, eqZ-same, Index, indexed}
+use Rattle.frame.proofs.Shapes.{framed, directed, sweep-sane}
 use Rattle.frame.proofs.Walks.{spot, pixels-are, pixels-none, places-are}
 use Rattle.frame.proofs.Spans.{spans, pixels-span, past-lines, line-some}
 
@@ -83,6 +82,10 @@ on-its-line sh d x y h l = go (shallow d) refl
         subst (List·Memᴰ (at x y)) (sym (by-major sh d (lineOf d x y) false e))
         (each-in (λ (y' : ℕ). each (λ (x' : ℕ). onLine d (lineOf d x y) x' y') (sh .width)) (sh .height) y (at x y) l
         (each-in (λ (x' : ℕ). onLine d (lineOf d x y) x' y) (sh .width) x (at x y) h here))
+
+pub exactly-one-line : (sh : Shape) (d : Direction) (x y : ℕ) → x < sh .width → y < sh .height
+    → List·Memᴰ (at x y) (pixels sh d (lineOf d x y)) × ((k : ℤ) → List·Memᴰ (at x y) (pixels sh d k) → k ≡ lineOf d x y)
+exactly-one-line sh d x y h l = (on-its-line sh d x y h l, λ k m. sym (its-line sh d k x y m .2))
 
 -- ---- the lines of an accepted frame and direction
 

@@ -4,18 +4,19 @@
 --   small, div-up           a product's size, and division ascends
 -- Assumes nothing.
 use mathlib.Core.Path.{_≡_, refl, sym, ap, _∙_}
-use Prim.Native.Nat.{ℕ, zero, suc, _+_, _-_, _*_, _/_, _≤_, _<_}
+use Prim.Native.Nat.{ℕ, zero, suc, _+_, _*_, _/_, _≤_, _<_}
 use native.Mathlib.Omega.{arith}
 use native.Mathlib.Nat.{mul-le-mul, mul-le-mul-left, mul-le-mul-right, mul-assoc, mul-comm, add-mul, one-mul, div-lt-iff-lt-mul, le-div-iff-mul-le, div-mul-le-self, le-trans, zero-mul, mul-add, div-eq-of-lt, add-mul-div-right}
 use native.Mathlib.Numerals.{add-one}
 use mathlib.Core.Bool.{Bool, true, false}
 use borrow.Author.Tests.{leb-true, leb-false}
 use lib.Dec.{leb}
+use Rattle.answer.specs.Limits.{longest, steepest}
 use Rattle.frame.specs.Lines.{r}
 
 -- 2·i·b at the sizes that an accepted call has
-pub small : (i b : ℕ) → i ≤ 4095 → b ≤ 255 → 2 * i * b ≤ 8190 * 255
-small i b h k = mul-le-mul {n₁ = 2 * i} {m₁ = b} {n₂ = 8190} {m₂ = 255} (omega arith) k
+pub small : (i b : ℕ) → i ≤ longest → b ≤ steepest → 2 * i * b ≤ 2 * longest * steepest
+small i b h k = mul-le-mul {n₁ = 2 * i} {m₁ = b} {n₂ = 2 * longest} {m₂ = steepest} (omega arith) k
 
 times : (i a : ℕ) → (i + 1) * (2 * a) ≡ 2 * i * a + 2 * a
 times i a =

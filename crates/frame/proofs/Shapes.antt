@@ -3,12 +3,12 @@
 --   needed-small, needed-by     a frame's bytes fit, and are those that `bytes` hands back
 --   sweep-sane, sweep-apart     the sweep of an accepted frame and direction
 --   sweep-reach                 its last pixel is within the bytes that the frame needs
---   top-le, low-le              its lines move aside by less than a side
+--   top-less, low-less          its lines move aside by less than a side
 -- Assumes nothing.
 use mathlib.Core.Path.{_≡_, refl, sym}
 use mathlib.Core.Bool.{Bool, true, false, not, cond, _&&_, false≢true}
 use mathlib.Core.Logic.{inl, inr}
-use Prim.Native.Nat.{ℕ, zero, suc, _+_, _-_, _*_, _≤_, max}
+use Prim.Native.Nat.{ℕ, zero, suc, _+_, _-_, _*_, _≤_, _<_, max}
 use native.Mathlib.Omega.{arith}
 use native.Mathlib.Nat.{mul-le-mul}
 use borrow.Author.Tests.{leb-true, leb-false, not-true}
@@ -21,9 +21,8 @@ use Rattle.answer.proofs.Rules.{outside-not}
 use Rattle.frame.specs.declared.direction.Direction.{Direction}
 use Rattle.frame.specs.declared.shape.Shape.{Shape}
 use Rattle.frame.specs.declared.sweep.Sweep.{Sweep}
-use Rattle.frame.specs.Direction.{isDirection, shallow, opposite}
+use Rattle.frame.specs.Direction.{isDirection, shallow}
 use Rattle.frame.specs.Shape.{within, isFrame, needed}
-use Rattle.frame.specs.Lines.{r}
 use Rattle.frame.specs.Sweep.{sweepOf, low, Sane, Apart, Reach}
 use Rattle.frame.proofs.Rounding.{r-le}
 
@@ -71,8 +70,8 @@ directed d e =
     one zero (suc b) e = omega arith
     one (suc a) b e = omega arith
 
-pub needed-small : {sh : Shape} → Framed sh → (sh .height - 1) * sh .stride ≤ 4095 * 65535
-needed-small {sh} f = mul-le-mul {n₁ = sh .height - 1} {m₁ = sh .stride} {n₂ = 4095} {m₂ = 65535} (omega (arith, f)) (f .most)
+pub needed-small : {sh : Shape} → Framed sh → (sh .height - 1) * sh .stride ≤ longest * widest
+needed-small {sh} f = mul-le-mul {n₁ = sh .height - 1} {m₁ = sh .stride} {n₂ = longest} {m₂ = widest} (omega (arith, f)) (f .most)
 
 pub needed-by : (sh : Shape) → isFrame sh ≡ true → cond (isFrame sh) (needed sh) 0 ≡ needed sh
 needed-by sh e = rw e
@@ -142,13 +141,13 @@ majors-most sh d = go (shallow d) refl
     go true e = rw e (omega arith)
     go false e = rw e (omega arith)
 
-pub top-le : (s : Sweep) → Sane s → s .top ≤ 4095
-top-le s h = omega (arith, r-le (s .run) (s .rise) (s .majors - 1) (h .moves) (h .slow), h)
+pub top-less : (s : Sweep) → Sane s → s .top < longest
+top-less s h = omega (arith, r-le (s .run) (s .rise) (s .majors - 1) (h .moves) (h .slow), h)
 
-pub low-le : (s : Sweep) → Sane s → low s ≤ 4095
+pub low-less : (s : Sweep) → Sane s → low s < longest
 unfolding low
-low-le s h = go (s .falling) (top-le s h)
+low-less s h = go (s .falling) (top-less s h)
   where
-    go : (t : Bool) → s .top ≤ 4095 → cond t 0 (s .top) ≤ 4095
+    go : (t : Bool) → s .top < longest → cond t 0 (s .top) < longest
     go true k = omega arith
     go false k = k

@@ -4,9 +4,9 @@
 --   size-most, minus-fits, lowest-fits    a size that fits, and a negation that does
 --   steeper, not-steeper      the test of a size, as the definitions make it
 -- Assumes nothing.
-use mathlib.Core.Path.{_≡_, refl, ap, _∙_, subst}
-use mathlib.Core.Bool.{Bool, true, false, true≢false}
-use Prim.Native.Nat.{ℕ, zero, suc, _+_, _-_, _^_, _≤_, _<_, zero-le}
+use mathlib.Core.Path.{_≡_, ap, subst}
+use mathlib.Core.Bool.{true, false, true≢false}
+use Prim.Native.Nat.{ℕ, zero, suc, _+_, _^_, _≤_, _<_, zero-le}
 use native.Mathlib.Omega.{arith}
 use native.Mathlib.Nat.{lt-irrefl, lt-of-lt-of-le}
 use borrow.Author.Tests.{ltb-true, ltb-false, le-ltb, le-leb, lt-leb}
@@ -16,7 +16,7 @@ use lib.Signed.{mag, ltZ, nonNeg}
 use mir.Syntax.{w64}
 use mir.Val.{SFits, toZ, ofZ}
 use mir.Facts.{toZ-ofZ}
-use Rattle.answer.specs.Limits.{steepest}
+use Rattle.answer.specs.Limits.{longest, steepest}
 use Rattle.frame.proofs.Numbers.{minus-is}
 
 pub back : (z : ℤ) → mag z < 2 ^ 63 → toZ w64 (ofZ w64 z) ≡ z
@@ -34,15 +34,15 @@ pub size-most : (z : ℤ) → mag z < 2 ^ 63 → natAbs z ≤ 922337203685477580
 size-most (pos n) h = omega arith
 size-most (negsuc n) h = omega arith
 
-pub minus-fits : (z : ℤ) → natAbs z ≤ 4095 → SFits w64 (pos 0 -ℤ z)
+pub minus-fits : (z : ℤ) → natAbs z ≤ longest → SFits w64 (pos 0 -ℤ z)
 minus-fits z h = rw +ℤ-idl (go z h)
   where
-    go : (z : ℤ) → natAbs z ≤ 4095 → SFits w64 (negℤ z)
+    go : (z : ℤ) → natAbs z ≤ longest → SFits w64 (negℤ z)
     go (pos zero) h = record { sfits = omega arith }
     go (pos (suc n)) h = record { sfits = omega arith }
     go (negsuc n) h = record { sfits = omega arith }
 
-pub lowest-fits : (n : ℕ) → n ≤ 4095 → SFits w64 (subℕ 0 n)
+pub lowest-fits : (n : ℕ) → n ≤ longest → SFits w64 (subℕ 0 n)
 lowest-fits n h = subst (SFits w64) (minus-is 0 n) (minus-fits (pos n) h)
 
 pub steeper : {n m : ℕ} → ltb steepest n ≡ true → n ≡ m → leb m steepest ≡ false

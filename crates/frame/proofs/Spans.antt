@@ -3,28 +3,33 @@
 --   shift-falling, shift-rising, shift-le    by the slope's sign; a line moves aside by at most `top`
 --   from-falling, end-falling, from-rising, end-rising    its ends, by the slope's sign
 --   span-ordered, spans       the stretch of the c lines from u on
---   cells-span, pixels-span   a line's bytes and pixels, by its stretch
+--   span-holds, span-accepted every pixel of those lines is within it; what `span_of` hands back
+--   span-hit, cells-span, values-span, pixels-span    a line's hits, bytes, values and pixels, by its stretch
 --   past-lines, line-some     a line of an index past the last has no pixel, and every line below has one
 -- Assumes nothing.
 use mathlib.Core.Path.{_≡_, refl, sym, ap, _∙_}
-use mathlib.Core.Bool.{Bool, true, false, cond, _&&_, and-false}
-use mathlib.Core.Logic.{_⊎_, ⊎-elim}
+use mathlib.Core.Bool.{Bool, true, false, cond, _&&_, and-false, true≢false}
+use mathlib.Core.Logic.{⊎-elim}
 use mathlib.Core.List.{List, []}
 use Prim.Native.Nat.{ℕ, _+_, _-_, _*_, _/_, _≤_, _<_, min}
 use native.Mathlib.Nat.{add-mul, mul-add, mul-zero, mul-assoc, mul-comm, mul-le-mul, mul-le-mul-right, div-lt-iff-lt-mul, le-div-iff-mul-le, div-mul-le-self, div-eq-of-lt, le-trans}
 use native.Mathlib.Omega.{arith}
 use borrow.Author.Tests.{eqb-true, eqb-false, ltb-true, ltb-false, leb-true, le-leb, le-ltb, lt-ltb}
 use lib.Dec.{leb, ltb, eqb}
+use lib.ListN.{getD}
 use lib.IntN.{natAbs, subℕ}
 use Rattle.lists.specs.Tables.{table, those}
 use Rattle.lists.proofs.Cases.{less-or-not, both}
-use Rattle.lists.proofs.Picks.{those-none, those-stretch}
+use Rattle.lists.proofs.Picks.{map-table, those-none, those-stretch}
+use Rattle.answer.specs.Limits.{longest, steepest}
 use Rattle.frame.specs.declared.direction.Direction.{Direction}
 use Rattle.frame.specs.declared.shape.Shape.{Shape}
 use Rattle.frame.specs.declared.sweep.Sweep.{Sweep}
+use Rattle.frame.specs.Direction.{isDirection}
+use Rattle.frame.specs.Shape.{isFrame}
 use Rattle.frame.specs.Lines.{r, pixels}
-use Rattle.frame.specs.Sweep.{sweepOf, shift, low, lines, hit, cell, cells, Sane}
-use Rattle.frame.specs.Span.{passed, skipped, spanFrom, spanEnd, touched, Spans}
+use Rattle.frame.specs.Sweep.{sweepOf, shift, low, lines, hit, cell, cells, valuesAt, Sane}
+use Rattle.frame.specs.Span.{passed, skipped, spanFrom, spanEnd, spanning, spanOf, touched, Spans}
 use Rattle.frame.proofs.Numbers.{bool-iff}
 use Rattle.frame.proofs.Rounding.{r-up, r-zero, r-step, At, reached}
 use Rattle.frame.proofs.Walks.{hits, hit-at, spot, pixels-are}
@@ -43,8 +48,8 @@ turn i b = sym (mul-assoc i 2 b) ∙ ap (λ (n : ℕ). n * b) (mul-comm i 2)
 odd : (x a : ℕ) → (2 * x + 1) * a + a ≡ (x + 1) * (2 * a)
 odd x a = omega (arith, add-mul (2 * x) 1 a, turn (x + 1) a, ap (λ (n : ℕ). n * a) (mul-add 2 x 1), add-mul (2 * x) (2 * 1) a)
 
-pub odd-small : (x a : ℕ) → x ≤ 32768 → a ≤ 255 → (2 * x + 1) * a ≤ 65537 * 255
-odd-small x a h k = mul-le-mul {n₁ = 2 * x + 1} {m₁ = a} {n₂ = 65537} {m₂ = 255} (omega arith) k
+pub odd-small : (x a : ℕ) → x ≤ 8 * longest → a ≤ steepest → (2 * x + 1) * a ≤ (16 * longest + 1) * steepest
+odd-small x a h k = mul-le-mul {n₁ = 2 * x + 1} {m₁ = a} {n₂ = 16 * longest + 1} {m₂ = steepest} (omega arith) k
 
 module _ (a b n x : ℕ) (some : 1 ≤ a) where
   -- a line without a slope stays
@@ -218,6 +223,21 @@ module _ (s : Sweep) (sane : Sane s) (u c : ℕ) (here : u < lines s) (some : 1 
         behind = λ i l h. e .behind i (omega arith) h;
       }
 
+-- every pixel of the c lines from u on is within their stretch
+pub span-holds : {s : Sweep} {u c from count : ℕ} → Spans s u c from count → (j i : ℕ) → j < c → i < s .majors → hit s (u + j) i ≡ true
+    → (from ≤ i) × (i < from + count)
+span-holds {s} {u} {c} {from} {count} p j i h k e =
+    let on = hits s (u + j) i e in
+    let t = touched-at s u c i (omega arith) (omega arith) in (
+      ⊎-elim (λ q. absurd (true≢false (sym t ∙ p .before i q))) (λ q. q) (less-or-not i from),
+      ⊎-elim (λ q. q) (λ q. absurd (true≢false (sym t ∙ p .behind i q k))) (less-or-not i (from + count)),
+    )
+
+-- what `span_of` hands back for an accepted frame and direction
+pub span-accepted : (sh : Shape) (d : Direction) (u c : ℕ) → isFrame sh ≡ true → isDirection d ≡ true → u < lines (sweepOf sh d) → 1 ≤ c → c ≤ longest
+    → spanOf sh d u c ≡ spanning (sweepOf sh d) u c
+span-accepted sh d u c f v h some most = rw (f, v, lt-ltb u (lines (sweepOf sh d)) h, le-ltb c 1 some, le-ltb longest c most)
+
 -- ---- one line
 
 touched-one : (s : Sweep) (u i : ℕ) → touched s u 1 i ≡ hit s u i
@@ -243,6 +263,9 @@ module _ {s : Sweep} {u from count : ℕ} (p : Spans s u 1 from count) where
   pub cells-span : cells s u (s .majors) ≡ table (λ (i : ℕ). cell s u (from + i)) count
   unfolding cells
   cells-span = those-span (cell s u)
+
+  pub values-span : (f : List ℕ) → valuesAt f (cells s u (s .majors)) ≡ table (λ (i : ℕ). getD f (cell s u (from + i)) 0) count
+  values-span f = ap (valuesAt f) cells-span ∙ map-table (λ (c : ℕ). getD f c 0) (λ (i : ℕ). cell s u (from + i)) count
 
 -- a line's pixels are an interval of the major coordinate
 pub pixels-span : (sh : Shape) (d : Direction) → 1 ≤ natAbs (d .p) + natAbs (d .q) → (u from count : ℕ) → Spans (sweepOf sh d) u 1 from count

@@ -6,14 +6,14 @@
 --   cells-mem, cells-in    what is among a line's bytes
 --   cell-reach        each byte of a line lies before the last pixel's end
 -- Assumes nothing.
-use mathlib.Core.Path.{_≡_, refl, sym, ap, ap₂, _∙_}
+use mathlib.Core.Path.{_≡_, refl, sym, ap, _∙_}
 use mathlib.Core.Bool.{Bool, true, false, cond}
 use mathlib.Core.List.{List, [], map, map-map, List·Memᴰ}
 use Prim.Native.Nat.{ℕ, _+_, _-_, _*_, _≤_, _<_}
 use native.Mathlib.Omega.{arith}
 use native.Mathlib.Nat.{mul-le-mul-right}
 use borrow.Author.Tests.{leb-true, leb-false, ltb-true, le-leb, lt-ltb}
-use lib.Dec.{leb, ltb, eqb}
+use lib.Dec.{leb, ltb}
 use lib.ListN.{getD}
 use lib.IntN.{ℤ, pos, negsuc, natAbs, subℕ, _-ℤ_, _*ℤ_}
 use Rattle.lists.specs.Tables.{each, those}
@@ -26,7 +26,7 @@ use Rattle.frame.specs.declared.sweep.Sweep.{Sweep}
 use Rattle.frame.specs.Direction.{shallow, opposite}
 use Rattle.frame.specs.Lines.{r, eqZ, Pixel, at, pixels, place, gathered}
 use Rattle.frame.specs.Sweep.{sweeping, sweepOf, shift, low, hit, cell, cells, value, valuesAt, Reach}
-use Rattle.frame.proofs.Numbers.{bool-iff, eqZ-true, sub-shift, eqZ-sub, rising-is, falling-is}
+use Rattle.frame.proofs.Numbers.{eqZ-true, sub-shift, eqZ-sub, rising-is, falling-is}
 use Rattle.frame.proofs.Rounding.{r-up}
 
 -- ---- a hit

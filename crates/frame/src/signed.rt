@@ -4,7 +4,7 @@ ghost use mathlib.Core.Path.{_≡_};
 ghost use Prim.Native.Nat.{_≤_};
 ghost use lib.Dec.{ltb};
 ghost use lib.IntN.{natAbs, subℕ};
-ghost use Rattle.answer.specs.Limits.{steepest};
+ghost use Rattle.answer.specs.Limits.{longest, steepest};
 ghost use Rattle.frame.specs.Direction.{opposite, dir};
 ghost use Rattle.frame.specs.Span.{Indexed};
 
@@ -40,7 +40,7 @@ pub(crate) struct Index {
 
 // The index of a line's number, where the lowest number is `low` below 0.
 pub(crate) fn index_of(low: usize, line: i64) -> Index
-    requires { ⌜ low ≤ 4095 ⌝ }
+    requires { ⌜ low ≤ longest ⌝ }
     ensures { λ w. ⌜ Indexed low line (w .there) (w .at) ⌝ }
 {
     let m = size(line);
@@ -64,7 +64,7 @@ pub(crate) fn index_of(low: usize, line: i64) -> Index
 
 // The number of the line of index 0.
 pub(crate) fn lowest(low: usize) -> i64
-    requires { ⌜ low ≤ 4095 ⌝ }
+    requires { ⌜ low ≤ longest ⌝ }
     ensures { λ z. ⌜ z ≡ subℕ 0 low ⌝ }
 {
     0 - low as i64

@@ -6,7 +6,8 @@ use crate::sweep::swept;
 use answer::LONGEST;
 use answer::is_outside;
 ghost use mathlib.Core.Path.{_≡_};
-ghost use Prim.Native.Nat.{_≤_, _<_};
+ghost use Prim.Native.Nat.{_*_, _≤_, _<_};
+ghost use Rattle.answer.specs.Limits.{longest, steepest};
 ghost use Rattle.frame.specs.Sweep.{lines, Sane};
 ghost use Rattle.frame.specs.Span.{passed, skipped, spanning, spanOf};
 
@@ -18,7 +19,7 @@ pub struct Span {
 
 // The first major coordinate at which a line has made more than x minor steps; `majors` where there is none.
 fn past(run: usize, rise: usize, majors: usize, x: usize) -> usize
-    requires { ⌜ (1 ≤ run) × (run ≤ 255) × (rise ≤ run) × (x ≤ 32768) ⌝ }
+    requires { ⌜ (1 ≤ run) × (run ≤ steepest) × (rise ≤ run) × (x ≤ 8 * longest) ⌝ }
     ensures { λ e. ⌜ e ≡ passed run rise majors x ⌝ }
 {
     if rise == 0 {
@@ -33,7 +34,7 @@ fn past(run: usize, rise: usize, majors: usize, x: usize) -> usize
 
 // The first major coordinate at which the minor steps and `more` are above `most`.
 fn skip(run: usize, rise: usize, majors: usize, more: usize, most: usize) -> usize
-    requires { ⌜ (1 ≤ run) × (run ≤ 255) × (rise ≤ run) × (most ≤ 32768) ⌝ }
+    requires { ⌜ (1 ≤ run) × (run ≤ steepest) × (rise ≤ run) × (most ≤ 8 * longest) ⌝ }
     ensures { λ b. ⌜ b ≡ skipped run rise majors more most ⌝ }
 {
     if most < more {
@@ -44,7 +45,7 @@ fn skip(run: usize, rise: usize, majors: usize, more: usize, most: usize) -> usi
 
 // The major coordinates at which one of the `lanes` lines from u on has a pixel.
 pub(crate) fn spanned(s: Sweep, u: usize, lanes: usize) -> Span
-    requires { ⌜ Sane s × (u < lines s) × (1 ≤ lanes) × (lanes ≤ 4096) ⌝ }
+    requires { ⌜ Sane s × (u < lines s) × (1 ≤ lanes) × (lanes ≤ longest) ⌝ }
     ensures { λ w. ⌜ w ≡ spanning s u lanes ⌝ }
 {
     let majors = s.majors;

@@ -6,6 +6,7 @@ use crate::signed::size;
 ghost use mathlib.Core.Path.{_≡_};
 ghost use mathlib.Core.Bool.{true};
 ghost use Prim.Native.Nat.{_≤_, _<_};
+ghost use Rattle.answer.specs.Limits.{longest, steepest};
 ghost use Rattle.frame.specs.Direction.{isDirection};
 ghost use Rattle.frame.specs.Shape.{isFrame};
 ghost use Rattle.frame.specs.Lines.{r};
@@ -37,7 +38,7 @@ const NONE: Sweep = Sweep {
 
 // How many minor steps a line has made at a major coordinate, rounded.
 fn rounded(run: usize, rise: usize, i: usize) -> usize
-    requires { ⌜ (1 ≤ run) × (run ≤ 255) × (rise ≤ run) × (i ≤ 4095) ⌝ }
+    requires { ⌜ (1 ≤ run) × (run ≤ steepest) × (rise ≤ run) × (i ≤ longest) ⌝ }
     ensures { λ n. ⌜ n ≡ r run rise i ⌝ }
 {
     (2 * i * rise + run) / (2 * run)

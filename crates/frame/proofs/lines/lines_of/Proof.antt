@@ -7,10 +7,10 @@ use lib.IntN.{ℤ, subℕ}
 use mir.Syntax.{w64}
 use mir.Val.{SFits}
 use mir.Facts.{toZ-ofZ}
+use Rattle.answer.specs.Limits.{longest}
 use Rattle.frame.specs.declared.lines.Lines.{Lines}
-use Rattle.frame.specs.declared.sweep.Sweep.{Sweep}
 use Rattle.frame.specs.Sweep.{low, lines}
-use Rattle.frame.proofs.Shapes.{framed, directed, sweep-sane, top-le, low-le}
+use Rattle.frame.proofs.Shapes.{framed, directed, sweep-sane, top-less, low-less}
 use Rattle.frame.proofs.Signs.{lowest-fits}
 use Rattle.frame.proofs.Pixels.{first-is, count-is}
 use borrow.Author.Needs.{needs}
@@ -41,14 +41,14 @@ low-of-requires c κs = search needs
 abbrev made : ℤ → ℕ → Lines
 made k n = record { first = k; count = n }
 
-low-small : (c : tie.After-low-of) → c .low-of .result ≤ 4095
+low-small : (c : tie.After-low-of) → c .low-of .result ≤ longest
 low-small c =
     let a = c .before .before .before .before .before .before .args in
     let frame = framed (a .shape) (sym (c .before .before .before .before .before .is-frame .ensures) ∙ not-false _ (c .before .before .before .before .if1 .left)) in
     let direction = directed (a .d) (sym (c .before .before .before .is-direction .ensures) ∙ not-false _ (c .before .before .if2 .left)) in
     let s = c .before .swept in
     let sane = rw (← s .ensures) at (sweep-sane (a .shape) (a .d) frame direction) in
-    omega (arith, c .low-of .ensures, low-le (s .result) sane)
+    omega (arith, c .low-of .ensures, low-less (s .result) sane)
 
 lowest-requires : tie.Need-lowest-requires
 lowest-requires c κs = low-small c
@@ -60,7 +60,7 @@ add-t8 c =
     let direction = directed (a .d) (sym (c .before .before .before .before .before .is-direction .ensures) ∙ not-false _ (c .before .before .before .before .if2 .left)) in
     let s = c .before .before .before .swept in
     let sane = rw (← s .ensures) at (sweep-sane (a .shape) (a .d) frame direction) in
-    omega (arith, sane, top-le (s .result) sane)
+    omega (arith, sane, top-less (s .result) sane)
 
 returns-3 : tie.Need-returns-3
 returns-3 c =

@@ -1,13 +1,12 @@
 -- Each way out has made the tests that decide; a row ends within what the frame needs, and that is within the slice.
 use mathlib.Core.Path.{_≡_, sym, _∙_}
-use mathlib.Core.Bool.{true}
 use Prim.Native.Nat.{ℕ, _+_, _-_, _*_, _≤_, _<_}
 use native.Mathlib.Omega.{arith}
 use native.Mathlib.Nat.{mul-le-mul-right}
 use borrow.Author.Tests.{not-true, not-false, le-leb, lt-leb, lt-ltb, le-ltb}
 use lib.ListN.{length}
 use Rattle.frame.specs.declared.shape.Shape.{Shape}
-use Rattle.frame.specs.Shape.{isFrame, needed}
+use Rattle.frame.specs.Shape.{needed}
 use Rattle.frame.proofs.Shapes.{needed-by}
 use borrow.Author.Needs.{needs}
 use Rattle.frame.proofs.rows.row.Statement.{statement}

@@ -1,7 +1,6 @@
 -- The first i values are at their pixels.
 use mathlib.Core.Path.{_≡_, refl, sym, ap, ap₂, _∙_}
-use mathlib.Core.Bool.{true}
-use mathlib.Core.List.{List, [], _∷_, _++_}
+use mathlib.Core.List.{List}
 use Prim.Native.Nat.{ℕ, suc, _+_, _-_, _≤_, _<_}
 use native.Mathlib.Omega.{arith}
 use native.Mathlib.Numerals.{add-one}
@@ -12,7 +11,7 @@ use Rattle.lists.proofs.Tables.{length-table}
 use Rattle.frame.specs.declared.sweep.Sweep.{Sweep}
 use Rattle.frame.specs.Scattering.{stored}
 use Rattle.frame.specs.Sweep.{cell}
-use Rattle.frame.proofs.Scatters.{stored-length, stored-next}
+use Rattle.frame.proofs.Scatters.{stored-next}
 use Rattle.frame.proofs.Walks.{cell-reach}
 use Rattle.frame.proofs.Spans.{span-hit}
 use Rattle.frame.proofs.scattering.copy_in.Statement.{statement}

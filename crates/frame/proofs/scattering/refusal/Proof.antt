@@ -1,13 +1,8 @@
 -- Each way out has made the tests of the rules up to its own.
-use mathlib.Core.Path.{_≡_, refl, sym, ap, _∙_}
-use mathlib.Core.Bool.{true, cond}
-use Prim.Native.Nat.{ℕ}
-use lib.ListN.{length}
-use lib.IntN.{ℤ}
+use mathlib.Core.Path.{sym, ap, _∙_}
 use mir.Facts.{toZ-ofZ}
 use borrow.Author.Tests.{not-true, not-false, lt-ltb, le-ltb}
 use Rattle.answer.specs.Rules.{refusal, done}
-use Rattle.frame.specs.Shape.{isFrame, needed}
 use Rattle.frame.specs.Lines.{pixels}
 use Rattle.frame.specs.Span.{Tracks}
 use Rattle.frame.proofs.Shapes.{needed-by}

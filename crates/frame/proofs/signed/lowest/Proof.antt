@@ -1,5 +1,4 @@
 -- The difference fits, since the lowest line is less than a side below 0.
-use Prim.Native.Nat.{ℕ, _≤_}
 use native.Mathlib.Omega.{arith}
 use lib.IntN.{pos}
 use mir.Facts.{toZ-ofZ}

@@ -1,12 +1,10 @@
 -- The tests of what is accepted, and then the span.
-use mathlib.Core.Path.{sym, ap, _∙_}
+use mathlib.Core.Path.{sym, _∙_}
 use native.Mathlib.Omega.{arith}
 use borrow.Author.Tests.{not-true, not-false, lt-ltb, le-ltb}
 use Rattle.answer.specs.Limits.{longest}
 use Rattle.answer.proofs.Rules.{outside-not}
-use Rattle.frame.specs.declared.sweep.Sweep.{Sweep}
-use Rattle.frame.specs.Sweep.{lines, Sane}
-use Rattle.frame.proofs.Shapes.{framed, directed, sweep-sane, top-le}
+use Rattle.frame.proofs.Shapes.{framed, directed, sweep-sane, top-less}
 use borrow.Author.Needs.{needs}
 use Rattle.frame.proofs.span.span_of.Statement.{statement}
 use Rattle.frame.proofs.span.span_of.Tie as tie
@@ -40,7 +38,7 @@ add-if3 c =
     let direction = sym (c .before .before .before .is-direction .ensures) ∙ not-false _ (c .before .before .if2 .left) in
     let a = c .before .before .before .before .before .before .args in
     let sane = rw (← c .before .swept .ensures) at (sweep-sane (a .shape) (a .d) (framed (a .shape) frame) (directed (a .d) direction)) in
-    omega (arith, sane, top-le (c .before .swept .result) sane)
+    omega (arith, sane, top-less (c .before .swept .result) sane)
 
 returns-3 : tie.Need-returns-3
 returns-3 c =

@@ -5,7 +5,7 @@ use native.Mathlib.Omega.{arith}
 use Rattle.frame.specs.declared.span.Span.{Span}
 use Rattle.frame.specs.declared.sweep.Sweep.{Sweep}
 use Rattle.frame.specs.Span.{spanFrom, spanEnd, spanning}
-use Rattle.frame.proofs.Shapes.{top-le}
+use Rattle.frame.proofs.Shapes.{top-less}
 use Rattle.frame.proofs.Spans.{from-falling, end-falling, from-rising, end-rising, span-ordered}
 use borrow.Author.Needs.{needs}
 use Rattle.frame.proofs.span.spanned.Statement.{statement}
@@ -15,16 +15,16 @@ by-ends : (s : Sweep) (u c : ℕ) {from end : ℕ} → from ≡ spanFrom s u c �
 by-ends s u c p q = ap₂ (λ (f e : ℕ). record { from = f; count = e - f }) p q
 
 skip-requires : tie.Need-skip-requires
-skip-requires c κs = omega (arith, top-le (c .before .args .s) (c .before .pre .0))
+skip-requires c κs = omega (arith, top-less (c .before .args .s) (c .before .pre .0))
 
 add-past : tie.Need-add-past
-add-past c = omega (arith, top-le (c .before .before .args .s) (c .before .before .pre .0))
+add-past c = omega (arith, top-less (c .before .before .args .s) (c .before .before .pre .0))
 
 sub-past : tie.Need-sub-past
 sub-past c = search needs
 
 past-requires : tie.Need-past-requires
-past-requires c κs = omega (arith, top-le (c .before .before .args .s) (c .before .before .pre .0))
+past-requires c κs = omega (arith, top-less (c .before .before .args .s) (c .before .before .pre .0))
 
 sub-t15 : tie.Need-sub-t15
 sub-t15 c =
@@ -43,13 +43,13 @@ returns c =
     (c .before .skip .ensures ∙ sym (from-falling (a .s) (a .u) (a .lanes) falls)) (c .past .ensures ∙ sym (end-falling (a .s) (a .u) (a .lanes) falls))
 
 add-skip : tie.Need-add-skip
-add-skip c = omega (arith, top-le (c .before .args .s) (c .before .pre .0))
+add-skip c = omega (arith, top-less (c .before .args .s) (c .before .pre .0))
 
 skip-requires-2 : tie.Need-skip-requires-2
-skip-requires-2 c κs = omega (arith, top-le (c .before .args .s) (c .before .pre .0))
+skip-requires-2 c κs = omega (arith, top-less (c .before .args .s) (c .before .pre .0))
 
 add-past-2 : tie.Need-add-past-2
-add-past-2 c = omega (arith, top-le (c .before .before .args .s) (c .before .before .pre .0))
+add-past-2 c = omega (arith, top-less (c .before .before .args .s) (c .before .before .pre .0))
 
 sub-past-2 : tie.Need-sub-past-2
 sub-past-2 c = search needs
@@ -58,7 +58,7 @@ sub-past-3 : tie.Need-sub-past-3
 sub-past-3 c = search needs
 
 past-requires-2 : tie.Need-past-requires-2
-past-requires-2 c κs = omega (arith, top-le (c .before .before .args .s) (c .before .before .pre .0))
+past-requires-2 c κs = omega (arith, top-less (c .before .before .args .s) (c .before .before .pre .0))
 
 sub-t17 : tie.Need-sub-t17
 sub-t17 c =

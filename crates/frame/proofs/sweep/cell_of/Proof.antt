@@ -3,14 +3,15 @@ use mathlib.Core.Path.{ap}
 use Prim.Native.Nat.{ℕ, _+_, _-_, _*_, _≤_}
 use native.Mathlib.Omega.{arith}
 use native.Mathlib.Nat.{mul-le-mul}
+use Rattle.answer.specs.Limits.{longest, widest}
 use Rattle.frame.specs.Sweep.{cell}
 use Rattle.frame.proofs.Walks.{hits}
 use borrow.Author.Needs.{needs}
 use Rattle.frame.proofs.sweep.cell_of.Statement.{statement}
 use Rattle.frame.proofs.sweep.cell_of.Tie as tie
 
-small : (n k : ℕ) → n ≤ 4095 → k ≤ 65535 → n * k ≤ 4095 * 65535
-small n k h l = mul-le-mul {n₁ = n} {m₁ = k} {n₂ = 4095} {m₂ = 65535} h l
+small : (n k : ℕ) → n ≤ longest → k ≤ widest → n * k ≤ longest * widest
+small n k h l = mul-le-mul {n₁ = n} {m₁ = k} {n₂ = longest} {m₂ = widest} h l
 
 shifted-requires : tie.Need-shifted-requires
 shifted-requires c κs = search needs

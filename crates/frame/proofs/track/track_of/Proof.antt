@@ -2,12 +2,11 @@
 use mathlib.Core.Path.{sym, ap, _∙_}
 use native.Mathlib.Omega.{arith}
 use borrow.Author.Tests.{not-true, not-false}
-use lib.IntN.{ℤ}
 use mir.Facts.{toZ-ofZ}
 use Rattle.frame.specs.Lines.{pixels}
-use Rattle.frame.specs.Sweep.{sweepOf, low, lines, Sane}
-use Rattle.frame.specs.Span.{Indexed, Tracks}
-use Rattle.frame.proofs.Shapes.{framed, directed, sweep-sane, top-le, low-le}
+use Rattle.frame.specs.Sweep.{sweepOf, low, Sane}
+use Rattle.frame.specs.Span.{Indexed}
+use Rattle.frame.proofs.Shapes.{framed, directed, sweep-sane, top-less, low-less}
 use Rattle.frame.proofs.Walks.{pixels-none}
 use Rattle.frame.proofs.Pixels.{pixels-past}
 use Rattle.frame.proofs.Tracks.{tracks-none, tracks-some}
@@ -32,13 +31,13 @@ add-lines : tie.Need-add-lines
 add-lines c =
     let s = c .before .swept in
     let sane = sane-of (c .before) in
-    omega (arith, sane, top-le (s .result) sane)
+    omega (arith, sane, top-less (s .result) sane)
 
 low-of-requires : tie.Need-low-of-requires
 low-of-requires c κs = search needs
 
 index-of-requires : tie.Need-index-of-requires
-index-of-requires c κs = omega (arith, c .low-of .ensures, low-le (c .before .before .swept .result) (sane-of (c .before .before)))
+index-of-requires c κs = omega (arith, c .low-of .ensures, low-less (c .before .before .swept .result) (sane-of (c .before .before)))
 
 returns : tie.Need-returns
 returns c =
