@@ -11,20 +11,18 @@ use mathlib.Core.List.{List, [], _∷_, map, List·Memᴰ, append-nil}
 use Prim.Native.Nat.{ℕ, zero, suc, _+_, _-_, _*_, _≤_, _<_}
 use native.Mathlib.Omega.{arith}
 use lib.ListN.{length, getD, length-map}
-use lib.IntN.{ℤ, natAbs, subℕ}
+use lib.IntN.{ℤ, subℕ}
 use Rattle.lists.specs.Tables as tables
 use Rattle.lists.proofs.Cases.{less-or-not}
 use Rattle.frame.specs.declared.direction.Direction.{Direction}
 use Rattle.frame.specs.declared.shape.Shape.{Shape}
 use Rattle.frame.specs.declared.sweep.Sweep.{Sweep}
-use Rattle.frame.specs.Direction.{isDirection}
-use Rattle.frame.specs.Shape.{isFrame}
 use Rattle.frame.specs.Lines.{pixels, place}
 use Rattle.frame.specs.Scattering.{stored}
-use Rattle.frame.specs.Sweep.{sweepOf, low, shift, lines, hit, cell, cells, valuesAt, Sane, Reach, Apart, Swept}
+use Rattle.frame.specs.Sweep.{sweepOf, low, shift, lines, hit, cell, cells, valuesAt, Accepted, Sane, Reach, Apart, Swept}
 use Rattle.frame.proofs.Scatters.{flat, Distinct, distinct-next, stored-length, stored-off, stored-on, stored-apart}
 use Rattle.frame.proofs.Numbers.{Index, indexed}
-use Rattle.frame.proofs.Shapes.{framed, directed, sweep-apart}
+use Rattle.frame.proofs.Shapes.{accepted-some, sweep-apart}
 use Rattle.frame.proofs.Walks.{hits, cells-mem, cell-reach, places-are, pixels-none}
 use Rattle.frame.proofs.Spans.{past-lines}
 
@@ -71,17 +69,14 @@ module _ (s : Sweep) (far : Apart s) where
       go d false e = rw (e, append-nil) d
 
 -- a line of an accepted frame has each of its bytes once
-pub line-once : (sh : Shape) (d : Direction) → isFrame sh ≡ true → isDirection d ≡ true → (k : ℤ) → Distinct (map (place sh) (pixels sh d k))
-line-once sh d f v k = go (indexed (low (sweepOf sh d)) k)
+pub line-once : (sh : Shape) (d : Direction) → Accepted sh d → (k : ℤ) → Distinct (map (place sh) (pixels sh d k))
+line-once sh d ok k = go (indexed (low (sweepOf sh d)) k)
   where
-    some : 1 ≤ natAbs (d .p) + natAbs (d .q)
-    some = directed d v .some
-
     go : Index (low (sweepOf sh d)) k ⊎ ((u : ℕ) → subℕ u (low (sweepOf sh d)) ≡ k → ⊥) → Distinct (map (place sh) (pixels sh d k))
     go (inl x) =
-        subst Distinct (sym (places-are sh d some (x .u)) ∙ ap (λ (z : ℤ). map (place sh) (pixels sh d z)) (x .is))
-        (distinct (sweepOf sh d) (sweep-apart sh d (framed sh f)) (x .u) (sweepOf sh d .majors) (omega arith))
-    go (inr none) = rw (pixels-none sh d some k none) tt
+        subst Distinct (sym (places-are sh d (accepted-some ok) (x .u)) ∙ ap (λ (z : ℤ). map (place sh) (pixels sh d z)) (x .is))
+        (distinct (sweepOf sh d) (sweep-apart ok) (x .u) (sweepOf sh d .majors) (omega arith))
+    go (inr none) = rw (pixels-none sh d (accepted-some ok) k none) tt
 
 -- ---- one line after the other
 

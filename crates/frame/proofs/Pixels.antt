@@ -19,13 +19,12 @@ use Rattle.lists.proofs.Cases.{less-or-not}
 use Rattle.lists.proofs.Picks.{each-mem, each-in, keep-mem, those-in}
 use Rattle.frame.specs.declared.direction.Direction.{Direction}
 use Rattle.frame.specs.declared.shape.Shape.{Shape}
-use Rattle.frame.specs.Direction.{isDirection, shallow, opposite}
-use Rattle.frame.specs.Shape.{isFrame}
+use Rattle.frame.specs.Direction.{shallow, opposite}
 use Rattle.frame.specs.Lines.{r, lineOf, eqZ, Pixel, at, onLine, pixels, place, empty, noLine, firstLine, lineCount}
-use Rattle.frame.specs.Sweep.{sweepOf, shift, low, lines, hit}
+use Rattle.frame.specs.Sweep.{sweepOf, shift, low, lines, hit, Accepted}
 use Rattle.frame.specs.Span.{spanFrom, spanEnd}
 use Rattle.frame.proofs.Numbers.{eqZ-true, eqZ-same, Index, indexed}
-use Rattle.frame.proofs.Shapes.{framed, directed, sweep-sane}
+use Rattle.frame.proofs.Shapes.{accepted-some, sweep-sane}
 use Rattle.frame.proofs.Walks.{spot, pixels-are, pixels-none, places-are}
 use Rattle.frame.proofs.Spans.{spans, pixels-span, past-lines, line-some}
 
@@ -148,11 +147,11 @@ count-is sh d = go (shallow d) refl
     go true e = rw e
     go false e = rw e
 
-module _ (sh : Shape) (d : Direction) (f : isFrame sh ≡ true) (v : isDirection d ≡ true) where
+module _ (sh : Shape) (d : Direction) (ok : Accepted sh d) where
   pub pixels-past : (u : ℕ) → lines (sweepOf sh d) ≤ u → pixels sh d (subℕ u (low (sweepOf sh d))) ≡ []
   pixels-past u h =
       map-none (place sh) (pixels sh d (subℕ u (low (sweepOf sh d))))
-      (places-are sh d (directed d v .some) u ∙ past-lines (sweepOf sh d) (sweep-sane sh d (framed sh f) (directed d v)) u h)
+      (places-are sh d (accepted-some ok) u ∙ past-lines (sweepOf sh d) (sweep-sane ok) u h)
 
   pub line-interval : (k : ℤ) → Interval sh d k
   unfolding each
@@ -172,12 +171,12 @@ module _ (sh : Shape) (d : Direction) (f : isFrame sh ≡ true) (v : isDirection
             count = spanEnd s u 1 - spanFrom s u 1;
             minor = λ i. u - shift s (spanFrom s u 1 + i);
             is = ap (pixels sh d) (sym (x .is))
-                ∙ pixels-span sh d (directed d v .some) u (spanFrom s u 1) (spanEnd s u 1 - spanFrom s u 1)
-                (spans s (sweep-sane sh d (framed sh f) (directed d v)) u 1 h (omega arith));
+                ∙ pixels-span sh d (accepted-some ok) u (spanFrom s u 1) (spanEnd s u 1 - spanFrom s u 1)
+                (spans s (sweep-sane ok) u 1 h (omega arith));
           })
           (λ h. nothing (ap (pixels sh d) (sym (x .is)) ∙ pixels-past u h))
           (less-or-not u (lines s))
-      go (inr none) = nothing (pixels-none sh d (directed d v .some) k none)
+      go (inr none) = nothing (pixels-none sh d (accepted-some ok) k none)
 
   pub line-among : (k : ℤ) → noLine sh d k ≡ false → Among sh d k
   line-among k e = go (indexed (low (sweepOf sh d)) k)
@@ -188,13 +187,13 @@ module _ (sh : Shape) (d : Direction) (f : isFrame sh ≡ true) (v : isDirection
           (λ h. record { u = x .u; below = omega (arith, count-is sh d); is = number sh d (x .u) ∙ x .is })
           (λ h. absurd (true≢false (sym (ap empty (ap (pixels sh d) (sym (x .is)) ∙ pixels-past (x .u) h)) ∙ e)))
           (less-or-not (x .u) (lines (sweepOf sh d)))
-      go (inr none) = absurd (true≢false (sym (ap empty (pixels-none sh d (directed d v .some) k none)) ∙ e))
+      go (inr none) = absurd (true≢false (sym (ap empty (pixels-none sh d (accepted-some ok) k none)) ∙ e))
 
   pub among-line : (k : ℤ) → Among sh d k → noLine sh d k ≡ false
   among-line k a =
       let s = sweepOf sh d in
       let q : subℕ (a .u) (low s) ≡ k = sym (number sh d (a .u)) ∙ a .is in
-      let p = line-some s (sweep-sane sh d (framed sh f) (directed d v)) (a .u) (omega (arith, a .below, count-is sh d)) in
+      let p = line-some s (sweep-sane ok) (a .u) (omega (arith, a .below, count-is sh d)) in
       let m = those-in (hit s (a .u)) (λ (i : ℕ). spot d i (a .u - shift s i)) (s .majors) (p .i) (p .below) (p .on) in
       empty-not (pixels sh d k) (spot d (p .i) (a .u - shift s (p .i)))
-      (subst (List·Memᴰ (spot d (p .i) (a .u - shift s (p .i)))) (sym (pixels-are sh d (directed d v .some) (a .u)) ∙ ap (pixels sh d) q) m)
+      (subst (List·Memᴰ (spot d (p .i) (a .u - shift s (p .i)))) (sym (pixels-are sh d (accepted-some ok) (a .u)) ∙ ap (pixels sh d) q) m)

@@ -1,7 +1,8 @@
 -- What an accepted frame, an accepted direction and their sweep keep to.
 --   framed, directed            the ranges, from the tests
 --   needed-small, needed-by     a frame's bytes fit, and are those that `bytes` hands back
---   sweep-sane, sweep-apart     the sweep of an accepted frame and direction
+--   accepted-some               an accepted direction moves
+--   sweep-sane, sweep-apart, sweep-accepted    the sweep of an accepted frame and direction
 --   sweep-reach                 its last pixel is within the bytes that the frame needs
 --   top-less, low-less          its lines move aside by less than a side
 -- Assumes nothing.
@@ -23,7 +24,7 @@ use Rattle.frame.specs.declared.shape.Shape.{Shape}
 use Rattle.frame.specs.declared.sweep.Sweep.{Sweep}
 use Rattle.frame.specs.Direction.{isDirection, shallow}
 use Rattle.frame.specs.Shape.{within, isFrame, needed}
-use Rattle.frame.specs.Sweep.{sweepOf, low, Sane, Apart, Reach}
+use Rattle.frame.specs.Sweep.{sweepOf, sweepFor, low, Accepted, Sane, Apart, Reach}
 use Rattle.frame.proofs.Rounding.{r-le}
 
 pub record Framed (sh : Shape) : Type 0 where
@@ -78,13 +79,16 @@ needed-by sh e = rw e
 
 -- ---- the sweep
 
-module _ (sh : Shape) (d : Direction) (f : Framed sh) where
-  pub sweep-sane : Directed d → Sane (sweepOf sh d)
+module _ {sh : Shape} {d : Direction} (a : Accepted sh d) where
+  pub accepted-some : 1 ≤ natAbs (d .p) + natAbs (d .q)
+  accepted-some = directed d (a .direction) .some
+
+  pub sweep-sane : Sane (sweepOf sh d)
   unfolding sweepOf
-  sweep-sane v = go (shallow d) refl
+  sweep-sane = go (framed sh (a .frame)) (directed d (a .direction)) (shallow d) refl
     where
-      go : (t : Bool) → shallow d ≡ t → Sane (sweepOf sh d)
-      go true e =
+      go : Framed sh → Directed d → (t : Bool) → shallow d ≡ t → Sane (sweepOf sh d)
+      go f v true e =
           let slow = leb-true (natAbs (d .q)) (natAbs (d .p)) e in
           rw e
           (record {
@@ -100,7 +104,7 @@ module _ (sh : Shape) (d : Direction) (f : Framed sh) where
             run = v .left;
             top = refl;
           })
-      go false e =
+      go f v false e =
           let slow = leb-false (natAbs (d .q)) (natAbs (d .p)) e in
           rw e
           (record {
@@ -119,19 +123,22 @@ module _ (sh : Shape) (d : Direction) (f : Framed sh) where
 
   pub sweep-apart : Apart (sweepOf sh d)
   unfolding sweepOf
-  sweep-apart = go (shallow d) refl
+  sweep-apart = go (framed sh (a .frame)) (shallow d) refl
     where
-      go : (t : Bool) → shallow d ≡ t → Apart (sweepOf sh d)
-      go true e = rw e (inl (refl, f .past))
-      go false e = rw e (inr (refl, f .past))
+      go : Framed sh → (t : Bool) → shallow d ≡ t → Apart (sweepOf sh d)
+      go f true e = rw e (inl (refl, f .past))
+      go f false e = rw e (inr (refl, f .past))
 
   pub sweep-reach : (n : ℕ) → needed sh ≤ n → Reach (sweepOf sh d) n
   unfolding sweepOf
-  sweep-reach n h = go (shallow d) refl
+  sweep-reach n h = go (framed sh (a .frame)) (shallow d) refl
     where
-      go : (t : Bool) → shallow d ≡ t → Reach (sweepOf sh d) n
-      go true e = rw e (omega (arith, f))
-      go false e = rw e (omega (arith, f))
+      go : Framed sh → (t : Bool) → shallow d ≡ t → Reach (sweepOf sh d) n
+      go f true e = rw e (omega (arith, f))
+      go f false e = rw e (omega (arith, f))
+
+  pub sweep-accepted : sweepFor sh d ≡ sweepOf sh d
+  sweep-accepted = rw (a .frame, a .direction)
 
 pub majors-most : (sh : Shape) (d : Direction) → sweepOf sh d .majors ≤ max (sh .width) (sh .height)
 unfolding sweepOf

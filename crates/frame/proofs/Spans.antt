@@ -25,10 +25,8 @@ use Rattle.answer.specs.Limits.{longest, steepest}
 use Rattle.frame.specs.declared.direction.Direction.{Direction}
 use Rattle.frame.specs.declared.shape.Shape.{Shape}
 use Rattle.frame.specs.declared.sweep.Sweep.{Sweep}
-use Rattle.frame.specs.Direction.{isDirection}
-use Rattle.frame.specs.Shape.{isFrame}
 use Rattle.frame.specs.Lines.{r, pixels}
-use Rattle.frame.specs.Sweep.{sweepOf, shift, low, lines, hit, cell, cells, valuesAt, Sane}
+use Rattle.frame.specs.Sweep.{sweepOf, shift, low, lines, hit, cell, cells, valuesAt, Accepted, Sane}
 use Rattle.frame.specs.Span.{passed, skipped, spanFrom, spanEnd, spanning, spanOf, touched, Spans}
 use Rattle.frame.proofs.Numbers.{bool-iff}
 use Rattle.frame.proofs.Rounding.{r-up, r-zero, r-step, At, reached}
@@ -234,9 +232,9 @@ span-holds {s} {u} {c} {from} {count} p j i h k e =
     )
 
 -- what `span_of` hands back for an accepted frame and direction
-pub span-accepted : (sh : Shape) (d : Direction) (u c : ℕ) → isFrame sh ≡ true → isDirection d ≡ true → u < lines (sweepOf sh d) → 1 ≤ c → c ≤ longest
+pub span-accepted : (sh : Shape) (d : Direction) (u c : ℕ) → Accepted sh d → u < lines (sweepOf sh d) → 1 ≤ c → c ≤ longest
     → spanOf sh d u c ≡ spanning (sweepOf sh d) u c
-span-accepted sh d u c f v h some most = rw (f, v, lt-ltb u (lines (sweepOf sh d)) h, le-ltb c 1 some, le-ltb longest c most)
+span-accepted sh d u c ok h some most = rw (ok .frame, ok .direction, lt-ltb u (lines (sweepOf sh d)) h, le-ltb c 1 some, le-ltb longest c most)
 
 -- ---- one line
 

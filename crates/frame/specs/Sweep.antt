@@ -9,13 +9,14 @@
 --   cells s u n        the bytes of line u at the major coordinates below n, in line order
 --   value s f u i      line u's byte of f at major coordinate i, and 0 where it has no pixel there
 --   valuesAt f cs      the bytes of f at the places cs
+--   Accepted sh d      rules 1 and 2 accept the frame and the direction
 --   Sane s             what a sweep of an accepted frame and direction keeps to
 --   Reach s n          its last pixel's byte is below n
 --   Apart s            no two of its pixels share a byte
 --   Swept φ s f g g′   every line of g′ is φ of that line of f, and every other byte is g's
 -- That these are document 01's lines is shown in frame/proofs/Walks; laws: Walks, Partition, ByLines.
 use mathlib.Core.Path.{_≡_}
-use mathlib.Core.Bool.{Bool, false, cond, _&&_}
+use mathlib.Core.Bool.{Bool, true, false, cond, _&&_}
 use mathlib.Core.Logic.{_⊎_}
 use mathlib.Core.List.{List, map, List·Memᴰ}
 use Prim.Native.Nat.{ℕ, _+_, _-_, _*_, _≤_, _<_}
@@ -71,6 +72,10 @@ value s f u i = cond (hit s u i) (getD f (cell s u i) 0) 0
 
 abbrev pub valuesAt : List ℕ → List ℕ → List ℕ
 valuesAt f cs = map (λ (c : ℕ). getD f c 0) cs
+
+pub record Accepted (sh : Shape) (d : Direction) : Type 0 where
+  pub frame : isFrame sh ≡ true
+  pub direction : isDirection d ≡ true
 
 pub record Sane (s : Sweep) : Type 0 where
   pub some : 1 ≤ s .majors

@@ -7,10 +7,8 @@ ghost use mathlib.Core.Path.{_≡_};
 ghost use mathlib.Core.Bool.{true};
 ghost use Prim.Native.Nat.{_≤_, _<_};
 ghost use Rattle.answer.specs.Limits.{longest, steepest};
-ghost use Rattle.frame.specs.Direction.{isDirection};
-ghost use Rattle.frame.specs.Shape.{isFrame};
 ghost use Rattle.frame.specs.Lines.{r};
-ghost use Rattle.frame.specs.Sweep.{sweepOf, sweepFor, shift, low, hit, cell, Sane};
+ghost use Rattle.frame.specs.Sweep.{sweepOf, sweepFor, shift, low, hit, cell, Accepted, Sane};
 
 // How many major and minor coordinates there are, how far apart their pixels are in the frame's bytes, the slope, and how far a line moves aside
 // from its first major coordinate to the last.
@@ -46,7 +44,7 @@ fn rounded(run: usize, rise: usize, i: usize) -> usize
 
 // The sweep of an accepted frame in an accepted direction.
 pub(crate) fn swept(shape: Shape, d: Direction) -> Sweep
-    requires { ⌜ (isFrame shape ≡ true) × (isDirection d ≡ true) ⌝ }
+    requires { ⌜ Accepted shape d ⌝ }
     ensures { λ s. ⌜ s ≡ sweepOf shape d ⌝ }
 {
     let width = shape.width;

@@ -5,10 +5,7 @@ use crate::signed::index_of;
 use crate::span::spanned;
 use crate::sweep::low_of;
 use crate::sweep::swept;
-ghost use mathlib.Core.Path.{_≡_};
-ghost use mathlib.Core.Bool.{true};
-ghost use Rattle.frame.specs.Direction.{isDirection};
-ghost use Rattle.frame.specs.Shape.{isFrame};
+ghost use Rattle.frame.specs.Sweep.{Accepted};
 ghost use Rattle.frame.specs.Span.{Tracks};
 
 // A line's index, its first major coordinate, and how many pixels it has: 0 where the frame has no such line.
@@ -19,7 +16,7 @@ pub(crate) struct Track {
 }
 
 pub(crate) fn track_of(shape: Shape, d: Direction, line: i64) -> Track
-    requires { ⌜ (isFrame shape ≡ true) × (isDirection d ≡ true) ⌝ }
+    requires { ⌜ Accepted shape d ⌝ }
     ensures { λ t. ⌜ Tracks shape d line t ⌝ }
 {
     let s = swept(shape, d);

@@ -1,12 +1,13 @@
 -- Each way out has made the tests that decide; a row ends within what the frame needs, and that is within the slice.
 use mathlib.Core.Path.{_≡_, sym, _∙_}
+use mathlib.Core.Bool.{true}
 use Prim.Native.Nat.{ℕ, _+_, _-_, _*_, _≤_, _<_}
 use native.Mathlib.Omega.{arith}
 use native.Mathlib.Nat.{mul-le-mul-right}
 use borrow.Author.Tests.{not-true, not-false, le-leb, lt-leb, lt-ltb, le-ltb}
 use lib.ListN.{length}
 use Rattle.frame.specs.declared.shape.Shape.{Shape}
-use Rattle.frame.specs.Shape.{needed}
+use Rattle.frame.specs.Shape.{isFrame, needed}
 use Rattle.frame.proofs.Shapes.{needed-by}
 use borrow.Author.Needs.{needs}
 use Rattle.frame.proofs.rows.row.Statement.{statement}
@@ -29,8 +30,15 @@ returns c =
     let frame = sym (c .before .before .is-frame .ensures) ∙ not-true _ (c .before .if1 .taken) in
     rw frame
 
+frame : (c : tie.Else1) → isFrame (c .before .before .before .args .shape) ≡ true
+frame c = sym (c .before .is-frame .ensures) ∙ not-false _ (c .if1 .left)
+
 bytes-requires : tie.Need-bytes-requires
 bytes-requires c κs = search needs
+
+-- the bytes that the frame needs
+bytes-are : (c : tie.After-bytes) → c .bytes .result ≡ needed (c .before .before .before .before .args .shape)
+bytes-are c = c .bytes .ensures ∙ needed-by (c .before .before .before .before .args .shape) (frame (c .before))
 
 sub-result-2 : tie.Need-sub-result-2
 sub-result-2 c = search needs
@@ -43,9 +51,8 @@ part-result-end-2 c = search needs
 
 returns-2 : tie.Need-returns-2
 returns-2 c =
-    let frame = sym (c .before .before .before .before .is-frame .ensures) ∙ not-false _ (c .before .before .before .if1 .left) in
-    let short = lt-leb _ _ (rw (c .before .before .bytes .ensures ∙ needed-by (c .before .before .before .before .before .before .args .shape) frame) at (c .before .if2 .taken)) in
-    rw (frame, short)
+    let short = lt-leb _ _ (rw (bytes-are (c .before .before)) at (c .before .if2 .taken)) in
+    rw (frame (c .before .before .before), short)
 
 sub-result-3 : tie.Need-sub-result-3
 sub-result-3 c = search needs
@@ -58,19 +65,17 @@ part-result-end-3 c = search needs
 
 returns-3 : tie.Need-returns-3
 returns-3 c =
-    let frame = sym (c .before .before .before .before .before .is-frame .ensures) ∙ not-false _ (c .before .before .before .before .if1 .left) in
-    let whole = le-leb _ _ (rw (c .before .before .before .bytes .ensures ∙ needed-by (c .before .before .before .before .before .before .before .args .shape) frame) at (c .before .before .if2 .left)) in
+    let whole = le-leb _ _ (rw (bytes-are (c .before .before .before)) at (c .before .before .if2 .left)) in
     let none = le-ltb _ _ (c .before .if3 .taken) in
-    rw (frame, whole, none)
+    rw (frame (c .before .before .before .before), whole, none)
 
 ends : (sh : Shape) (y : ℕ) → y < sh .height → y * sh .stride + sh .width ≤ needed sh
 ends sh y h = let k : y * sh .stride ≤ (sh .height - 1) * sh .stride = mul-le-mul-right (sh .stride) (omega arith) in omega arith
 
-within : (c : tie.Else3) → c .before .before .before .before .before .before .args .y * c .before .before .before .before .before .before .args .shape .stride + c .before .before .before .before .before .before .args .shape .width ≤ length (c .before .before .before .before .before .before .args .src .now)
+within : (c : tie.Else3) → (let a = c .before .before .before .before .before .before .args in a .y * a .shape .stride + a .shape .width ≤ length (a .src .now))
 within c =
     let a = c .before .before .before .before .before .before .args in
-    let frame = sym (c .before .before .before .before .is-frame .ensures) ∙ not-false _ (c .before .before .before .if1 .left) in
-    omega (arith, ends (a .shape) (a .y) (c .if3 .left), c .before .before .bytes .ensures ∙ needed-by (a .shape) frame, c .before .if2 .left)
+    omega (arith, ends (a .shape) (a .y) (c .if3 .left), bytes-are (c .before .before), c .before .if2 .left)
 
 mul-from : tie.Need-mul-from
 mul-from c = omega (arith, within (c .before))
@@ -90,11 +95,11 @@ part-result-end-4 c = within (c .before .before)
 returns-4 : tie.Need-returns-4
 returns-4 c =
     let a = c .before .before .before .before .before .before .before .before .before .args in
-    let frame = sym (c .before .before .before .before .before .before .before .is-frame .ensures) ∙ not-false _ (c .before .before .before .before .before .before .if1 .left) in
-    let whole = le-leb _ _ (rw (c .before .before .before .before .before .bytes .ensures ∙ needed-by (a .shape) frame) at (c .before .before .before .before .if2 .left)) in
+    let from = a .y * a .shape .stride in
+    let wide : from + a .shape .width - from ≡ a .shape .width = omega arith in
+    let whole = le-leb _ _ (rw (bytes-are (c .before .before .before .before .before)) at (c .before .before .before .before .if2 .left)) in
     let there = lt-ltb _ _ (c .before .before .before .if3 .left) in
-    let wide : a .y * a .shape .stride + a .shape .width - a .y * a .shape .stride ≡ a .shape .width = omega arith in
-    rw (wide, frame, whole, there)
+    rw (wide, frame (c .before .before .before .before .before .before), whole, there)
 
 pub row-spec : {M : Type 1} → statement M
 row-spec =

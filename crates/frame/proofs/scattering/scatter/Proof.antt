@@ -9,7 +9,7 @@ use Rattle.answer.proofs.Rules.{after-done, after-refused}
 use Rattle.frame.specs.Lines.{pixels}
 use Rattle.frame.specs.Scattering.{stored, scatterRules}
 use Rattle.frame.specs.Span.{Tracks}
-use Rattle.frame.proofs.Shapes.{framed, directed, sweep-sane, sweep-reach}
+use Rattle.frame.proofs.Shapes.{sweep-sane, sweep-reach}
 use Rattle.frame.proofs.Calls.{Fits, scatter-fits}
 use borrow.Author.Needs.{needs}
 use Rattle.frame.proofs.scattering.scatter.Statement.{statement}
@@ -19,35 +19,34 @@ refusal-requires : tie.Need-refusal-requires
 refusal-requires c κs = search needs
 
 -- the answer of the rules, for the line's own number
-says : (c : tie.After-refusal) → c .refusal .result ≡ answer (scatterRules (c .before .before .before .args .shape) (c .before .before .before .args .d) (c .before .before .before .args .line) (length (c .before .before .before .args .src .now)) (length (c .before .before .before .args .dst .now))) (length (pixels (c .before .before .before .args .shape) (c .before .before .before .args .d) (c .before .before .before .args .line)))
+says : (c : tie.After-refusal)
+    → (let a = c .before .before .before .args in
+    c .refusal .result ≡ answer (scatterRules (a .shape) (a .d) (a .line) (length (a .src .now)) (length (a .dst .now))) (length (pixels (a .shape) (a .d) (a .line))))
 says c = rw (toZ-ofZ (c .before .before .before .fits .line)) at (c .refusal .ensures)
-
-fit : (c : tie.Else1) → Fits (c .before .before .before .before .before .args .shape) (c .before .before .before .before .before .args .d) (c .before .before .before .before .before .args .line) (length (c .before .before .before .before .before .args .dst .now)) (length (c .before .before .before .before .before .args .src .now))
-fit c = scatter-fits _ _ _ _ _ (says (c .before .before)) (c .if1 .left)
-
--- the track of the line's own number, in the sweep's own terms
-tracked : (c : tie.After-track-of) → Tracks (c .before .before .before .before .before .before .before .args .shape) (c .before .before .before .before .before .before .before .args .d) (c .before .before .before .before .before .before .before .args .line) (c .track-of .result)
-tracked c = rw (toZ-ofZ (c .before .before .before .before .before .before .before .fits .line)) at (c .track-of .ensures)
 
 returns : tie.Need-returns
 returns c =
     let a = c .before .before .refusal .result in
     record { answers = says (c .before .before); written = sym (after-refused a _ _ (c .if1 .taken)) }
 
+fits : (c : tie.Else1) → (let a = c .before .before .before .before .before .args in Fits (a .shape) (a .d) (a .line) (length (a .dst .now)) (length (a .src .now)))
+fits c = scatter-fits _ _ _ _ _ (says (c .before .before)) (c .if1 .left)
+
 swept-requires : tie.Need-swept-requires
-swept-requires c κs = (fit c .frame, fit c .direction)
+swept-requires c κs = fits c .ok
 
 track-of-requires : tie.Need-track-of-requires
-track-of-requires c κs = (fit (c .before) .frame, fit (c .before) .direction)
+track-of-requires c κs = fits (c .before) .ok
+
+-- the track of the line's own number
+tracked : (c : tie.After-track-of) → (let a = c .before .before .before .before .before .before .before .args in Tracks (a .shape) (a .d) (a .line) (c .track-of .result))
+tracked c = rw (toZ-ofZ (c .before .before .before .before .before .before .before .fits .line)) at (c .track-of .ensures)
 
 copy-in-requires : tie.Need-copy-in-requires
 copy-in-requires c κs =
-    let a = c .before .before .before .before .before .before .before .before .args in
-    let fits = fit (c .before .before .before) in
-    let frame = framed (a .shape) (fits .frame) in
+    let room = fits (c .before .before .before) in
     let t = tracked (c .before) in
-    rw (c .before .before .swept .ensures)
-    (sweep-sane (a .shape) (a .d) frame (directed (a .d) (fits .direction)), sweep-reach (a .shape) (a .d) frame _ (fits .whole), t .spans, rw (t .counted) (fits .room))
+    rw (c .before .before .swept .ensures) (sweep-sane (room .ok), sweep-reach (room .ok) _ (room .whole), t .spans, rw (t .counted) (room .room))
 
 same-length : tie.Need-same-length
 same-length c = search needs
@@ -56,14 +55,9 @@ returns-2 : tie.Need-returns-2
 returns-2 c =
     let a = c .before .before .before .before .before .before .before .before .before .before .before .args in
     let t = tracked (c .before .before .before .before) in
-    let answer = c .before .before .before .before .before .before .before .before .refusal .result in
-    record {
-      answers = says (c .before .before .before .before .before .before .before .before);
-      written =
-          rw (c .before .before .before .before .before .swept .ensures) at (c .before .before .copy-in .ensures)
-          ∙ ap (λ (cs : List ℕ). stored cs (a .src .now) (a .dst .now)) (sym (t .places))
-          ∙ sym (after-done answer _ _ (c .before .before .before .before .before .before .if1 .left));
-    }
+    let copied = rw (c .before .before .before .before .before .swept .ensures) at (c .before .before .copy-in .ensures) in
+    let done = after-done (c .before .before .before .before .before .before .before .before .refusal .result) _ _ (c .before .before .before .before .before .before .if1 .left) in
+    record { answers = says (c .before .before .before .before .before .before .before .before); written = copied ∙ ap (λ (cs : List ℕ). stored cs (a .src .now) (a .dst .now)) (sym (t .places)) ∙ sym done }
 
 pub scatter-spec : {M : Type 1} → statement M
 scatter-spec =

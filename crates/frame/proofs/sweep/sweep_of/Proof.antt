@@ -1,6 +1,8 @@
 -- The tests of rules 1 and 2, and then the sweep.
 use mathlib.Core.Path.{sym, _∙_}
 use borrow.Author.Tests.{not-true, not-false}
+use Rattle.frame.specs.Sweep.{Accepted}
+use Rattle.frame.proofs.Shapes.{sweep-accepted}
 use borrow.Author.Needs.{needs}
 use Rattle.frame.proofs.sweep.sweep_of.Statement.{statement}
 use Rattle.frame.proofs.sweep.sweep_of.Tie as tie
@@ -22,17 +24,18 @@ returns-2 c =
     let direction = sym (c .before .is-direction .ensures) ∙ not-true _ (c .if2 .taken) in
     rw (frame, direction)
 
-swept-requires : tie.Need-swept-requires
-swept-requires c κs =
+-- the tests of rules 1 and 2 are passed
+accepted : (c : tie.Else2) → Accepted (c .before .before .before .before .args .shape) (c .before .before .before .before .args .d)
+accepted c =
     let frame = sym (c .before .before .before .is-frame .ensures) ∙ not-false _ (c .before .before .if1 .left) in
     let direction = sym (c .before .is-direction .ensures) ∙ not-false _ (c .if2 .left) in
-    (frame, direction)
+    record { frame = frame; direction = direction }
+
+swept-requires : tie.Need-swept-requires
+swept-requires c κs = accepted c
 
 returns-3 : tie.Need-returns-3
-returns-3 c =
-    let frame = sym (c .before .before .before .before .is-frame .ensures) ∙ not-false _ (c .before .before .before .if1 .left) in
-    let direction = sym (c .before .before .is-direction .ensures) ∙ not-false _ (c .before .if2 .left) in
-    rw (frame, direction) (c .swept .ensures)
+returns-3 c = c .swept .ensures ∙ sym (sweep-accepted (accepted (c .before)))
 
 pub sweep-of-spec : {M : Type 1} → statement M
 sweep-of-spec =

@@ -7,7 +7,6 @@ use borrow.Author.Tests.{le-leb, lt-leb}
 use lib.IntN.{ℤ, natAbs}
 use Rattle.frame.specs.declared.direction.Direction.{Direction}
 use Rattle.frame.specs.declared.shape.Shape.{Shape}
-use Rattle.frame.specs.declared.sweep.Sweep.{Sweep}
 use Rattle.frame.specs.Direction.{opposite, shallow, dir}
 use Rattle.frame.specs.Lines.{r}
 use Rattle.frame.specs.Sweep.{sweepOf}
@@ -34,10 +33,13 @@ record Known (sh : Shape) (d : Direction) (a b : ℕ) (f : Bool) : Type 0 where
   pair : Directed d
   frame : Framed sh
 
-known : (c : tie.After-opposed) → Known (c .before .before .before .before .before .args .shape) (c .before .before .before .before .before .args .d) (c .before .before .size .result) (c .before .size2 .result) (c .opposed .result)
+abbrev start : tie.After-opposed → tie.Start
+start c = c .before .before .before .before .before
+
+known : (c : tie.After-opposed) → Known (start c .args .shape) (start c .args .d) (c .before .before .size .result) (c .before .size2 .result) (c .opposed .result)
 known c =
-    let sh = c .before .before .before .before .before .args .shape in
-    let d = c .before .before .before .before .before .args .d in
+    let sh = start c .args .shape in
+    let d = start c .args .d in
     let told = c .before .before .before .before .struct-told .given in
     let p = back (d .p) (told .0 .1) in
     let q = back (d .q) (told .1 .0 .1) in
@@ -45,20 +47,20 @@ known c =
       left = c .before .before .size .ensures ∙ ap natAbs p;
       right = c .before .size2 .ensures ∙ ap natAbs q;
       falls = c .opposed .ensures ∙ ap₂ (λ (x y : ℤ). opposite (dir x y)) p q;
-      pair = directed d (c .before .before .before .before .before .pre .1);
-      frame = framed sh (c .before .before .before .before .before .pre .0);
+      pair = directed d (start c .pre .direction);
+      frame = framed sh (start c .pre .frame);
     }
 
 module _ (sh : Shape) (d : Direction) {a b : ℕ} {f : Bool} {t : ℕ} (ea : a ≡ natAbs (d .p)) (eb : b ≡ natAbs (d .q)) (ef : f ≡ opposite d) where
   is-shallow : b ≤ a → t ≡ r a b (sh .width - 1)
-      → _≡_ {A = Sweep} (record { majors = sh .width; minors = sh .height; major = 1; minor = sh .stride; run = a; rise = b; falling = f; top = t }) (sweepOf sh d)
+      → record { majors = sh .width; minors = sh .height; major = 1; minor = sh .stride; run = a; rise = b; falling = f; top = t } ≡ sweepOf sh d
   unfolding sweepOf
   is-shallow h et =
       let e : shallow d ≡ true = le-leb (natAbs (d .q)) (natAbs (d .p)) (omega arith) in
       rw e (cc)
 
   is-steep : a < b → t ≡ r b a (sh .height - 1)
-      → _≡_ {A = Sweep} (record { majors = sh .height; minors = sh .width; major = sh .stride; minor = 1; run = b; rise = a; falling = f; top = t }) (sweepOf sh d)
+      → record { majors = sh .height; minors = sh .width; major = sh .stride; minor = 1; run = b; rise = a; falling = f; top = t } ≡ sweepOf sh d
   unfolding sweepOf
   is-steep h et =
       let e : shallow d ≡ false = lt-leb (natAbs (d .q)) (natAbs (d .p)) (omega arith) in

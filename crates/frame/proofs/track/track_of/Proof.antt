@@ -6,7 +6,7 @@ use mir.Facts.{toZ-ofZ}
 use Rattle.frame.specs.Lines.{pixels}
 use Rattle.frame.specs.Sweep.{sweepOf, low, Sane}
 use Rattle.frame.specs.Span.{Indexed}
-use Rattle.frame.proofs.Shapes.{framed, directed, sweep-sane, top-less, low-less}
+use Rattle.frame.proofs.Shapes.{accepted-some, sweep-sane, top-less, low-less}
 use Rattle.frame.proofs.Walks.{pixels-none}
 use Rattle.frame.proofs.Pixels.{pixels-past}
 use Rattle.frame.proofs.Tracks.{tracks-none, tracks-some}
@@ -17,57 +17,51 @@ use Rattle.frame.proofs.track.track_of.Tie as tie
 swept-requires : tie.Need-swept-requires
 swept-requires c κs = search needs
 
-sane-of : (c : tie.After-swept) → Sane (c .swept .result)
-sane-of c =
-    let a = c .before .args in
-    let pre = c .before .pre in
-    rw (← c .swept .ensures) at (sweep-sane (a .shape) (a .d) (framed (a .shape) (pre .0)) (directed (a .d) (pre .1)))
-
--- the index, of the line's own number and the sweep's own lowest
-indexed : (c : tie.After-index-of) → Indexed (low (sweepOf (c .before .before .before .before .args .shape) (c .before .before .before .before .args .d))) (c .before .before .before .before .args .line) (c .index-of .result .there) (c .index-of .result .at)
-indexed c = rw (toZ-ofZ (c .before .before .before .before .fits .line), c .before .low-of .ensures, c .before .before .before .swept .ensures) at (c .index-of .ensures)
+sane : (c : tie.After-swept) → Sane (c .swept .result)
+sane c = rw (c .swept .ensures) (sweep-sane (c .before .pre))
 
 add-lines : tie.Need-add-lines
-add-lines c =
-    let s = c .before .swept in
-    let sane = sane-of (c .before) in
-    omega (arith, sane, top-less (s .result) sane)
+add-lines c = let s = sane (c .before) in omega (arith, s, top-less (c .before .swept .result) s)
 
 low-of-requires : tie.Need-low-of-requires
 low-of-requires c κs = search needs
 
 index-of-requires : tie.Need-index-of-requires
-index-of-requires c κs = omega (arith, c .low-of .ensures, low-less (c .before .before .swept .result) (sane-of (c .before .before)))
+index-of-requires c κs = omega (arith, c .low-of .ensures, low-less (c .before .before .swept .result) (sane (c .before .before)))
+
+-- the index, of the line's own number and the sweep's own lowest
+indexed : (c : tie.After-index-of)
+    → (let a = c .before .before .before .before .args in Indexed (low (sweepOf (a .shape) (a .d))) (a .line) (c .index-of .result .there) (c .index-of .result .at))
+indexed c = rw (toZ-ofZ (c .before .before .before .before .fits .line), c .before .low-of .ensures, c .before .before .before .swept .ensures) at (c .index-of .ensures)
 
 returns : tie.Need-returns
 returns c =
     let a = c .before .before .before .before .before .before .args in
-    let pre = c .before .before .before .before .before .before .pre in
+    let ok = c .before .before .before .before .before .before .pre in
     let none = indexed (c .before .before) .missing (not-true _ (c .if1 .taken)) in
     rw (c .before .before .before .before .before .swept .ensures)
-    (tracks-none (a .shape) (a .d) (pre .0) (pre .1) (a .line) (pixels-none (a .shape) (a .d) (directed (a .d) (pre .1) .some) (a .line) none))
+    (tracks-none (a .shape) (a .d) ok (a .line) (pixels-none (a .shape) (a .d) (accepted-some ok) (a .line) none))
 
 returns-2 : tie.Need-returns-2
 returns-2 c =
     let a = c .before .before .before .before .before .before .before .args in
-    let pre = c .before .before .before .before .before .before .before .pre in
+    let ok = c .before .before .before .before .before .before .before .pre in
     let u = c .before .before .before .index-of .result .at in
     let number = indexed (c .before .before .before) .found (not-false _ (c .before .if1 .left)) in
-    let past = pixels-past (a .shape) (a .d) (pre .0) (pre .1) u (rw (c .before .before .before .before .before .before .swept .ensures) at (c .if2 .taken)) in
+    let past = pixels-past (a .shape) (a .d) ok u (rw (c .before .before .before .before .before .before .swept .ensures) at (c .if2 .taken)) in
     rw (c .before .before .before .before .before .before .swept .ensures)
-    (tracks-none (a .shape) (a .d) (pre .0) (pre .1) (a .line) (ap (pixels (a .shape) (a .d)) (sym number) ∙ past))
+    (tracks-none (a .shape) (a .d) ok (a .line) (ap (pixels (a .shape) (a .d)) (sym number) ∙ past))
 
 spanned-requires : tie.Need-spanned-requires
-spanned-requires c κs = (sane-of (c .before .before .before .before .before .before), c .if2 .left, omega arith, omega arith)
+spanned-requires c κs = (sane (c .before .before .before .before .before .before), c .if2 .left, omega arith, omega arith)
 
 returns-3 : tie.Need-returns-3
 returns-3 c =
     let a = c .before .before .before .before .before .before .before .before .args in
-    let pre = c .before .before .before .before .before .before .before .before .pre in
     let u = c .before .before .before .before .index-of .result .at in
     let number = indexed (c .before .before .before .before) .found (not-false _ (c .before .before .if1 .left)) in
-    let swept = c .before .before .before .before .before .before .before .swept .ensures in
-    tracks-some (a .shape) (a .d) (pre .0) (pre .1) (a .line) u (c .spanned .result) number (rw swept at (c .before .if2 .left)) (rw swept at (c .spanned .ensures))
+    let s = c .before .before .before .before .before .before .before .swept .ensures in
+    tracks-some (a .shape) (a .d) (c .before .before .before .before .before .before .before .before .pre) (a .line) u (c .spanned .result) number (rw s at (c .before .if2 .left)) (rw s at (c .spanned .ensures))
 
 pub track-of-spec : {M : Type 1} → statement M
 track-of-spec =
