@@ -26,7 +26,8 @@ use Rattle.frame.proofs.Shapes.{accepted-some, sweep-apart}
 use Rattle.frame.proofs.Walks.{hits, cells-mem, cell-reach, places-are, pixels-none}
 use Rattle.frame.proofs.Spans.{past-lines}
 
-pub same-cell : (s : Sweep) → Apart s → (u v i j : ℕ) → i < s .majors → j < s .majors → hit s u i ≡ true → hit s v j ≡ true → cell s u i ≡ cell s v j → (i ≡ j) × (u ≡ v)
+pub same-cell : (s : Sweep) → Apart s → (u v i j : ℕ) → i < s .majors → j < s .majors → hit s u i ≡ true → hit s v j ≡ true
+    → cell s u i ≡ cell s v j → (i ≡ j) × (u ≡ v)
 unfolding cell
 same-cell s far u v i j h k e f q = go far
   where

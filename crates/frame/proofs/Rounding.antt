@@ -48,7 +48,8 @@ pub r-step : (a b i : ℕ) → 1 ≤ a → b ≤ a → r a b (i + 1) ≤ r a b i
 unfolding r
 r-step a b i h k =
     let e : 2 * (i + 1) * b ≡ 2 * i * b + 2 * b = ap (λ (n : ℕ). n * b) (mul-add 2 i 1) ∙ add-mul (2 * i) (2 * 1) b in
-    let l : (2 * (i + 1) * b + a) / (2 * a) ≤ (2 * i * b + a + 1 * (2 * a)) / (2 * a) = div-up (2 * (i + 1) * b + a) (2 * i * b + a + 1 * (2 * a)) (2 * a) (omega arith) (omega (arith, e)) in
+    let l : (2 * (i + 1) * b + a) / (2 * a) ≤ (2 * i * b + a + 1 * (2 * a)) / (2 * a) =
+    div-up (2 * (i + 1) * b + a) (2 * i * b + a + 1 * (2 * a)) (2 * a) (omega arith) (omega (arith, e)) in
     omega (arith, l, add-mul-div-right (2 * i * b + a) 1 {z = 2 * a} (omega arith))
 
 pub record At (f : ℕ → ℕ) (n v : ℕ) : Type 0 where

@@ -180,7 +180,8 @@ module _ (s : Sweep) (sane : Sane s) (u c : ℕ) (here : u < lines s) (some : 1 
         behind = λ i l h. above s u c i (omega (arith, at i, q .over i l h));
       }
 
-  rises : s .falling ≡ false → {from end : ℕ} → Passes (s .run) (s .rise) (s .majors) (u + c) (s .top) from → Passes (s .run) (s .rise) (s .majors) 0 (lines s - u - 1) end
+  rises : s .falling ≡ false → {from end : ℕ} → Passes (s .run) (s .rise) (s .majors) (u + c) (s .top) from
+      → Passes (s .run) (s .rise) (s .majors) 0 (lines s - u - 1) end
       → Ends s u c from end
   rises f {from} {end} p q =
       let at = shift-rising s f in

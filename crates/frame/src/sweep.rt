@@ -107,9 +107,12 @@ fn shifted(s: Sweep, i: usize) -> usize
     requires { ⌜ Sane s × (i < s .majors) ⌝ }
     ensures { λ t. ⌜ t ≡ shift s i ⌝ }
 {
+    let run = s.run;
+    let rise = s.rise;
+    let top = s.top;
     let falling = s.falling;
-    let n = rounded(s.run, s.rise, i);
-    if falling { n } else { s.top - n }
+    let n = rounded(run, rise, i);
+    if falling { n } else { top - n }
 }
 
 // The byte of line u's pixel at major coordinate i.

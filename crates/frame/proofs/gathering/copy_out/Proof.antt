@@ -19,7 +19,8 @@ use Rattle.frame.proofs.gathering.copy_out.Tie as tie
 abbrev pixel : List ℕ → Sweep → ℕ → ℕ → ℕ → ℕ
 pixel src s u from k = getD src (cell s u (from + k)) 0
 
-at-front : (src : List ℕ) (s : Sweep) (u from count : ℕ) {d e : List ℕ} → Filled d e 0 count (pixel src s u from) → count ≤ length d → e ≡ front (table (pixel src s u from) count) d
+at-front : (src : List ℕ) (s : Sweep) (u from count : ℕ) {d e : List ℕ} → Filled d e 0 count (pixel src s u from) → count ≤ length d
+    → e ≡ front (table (pixel src s u from) count) d
 at-front src s u from count f room =
     filled-front (table (pixel src s u from) count)
     (filled-as f (λ (k : ℕ). getD (table (pixel src s u from) count) k 0) (λ k l h. sym (getD-table 0 (pixel src s u from) count k h)))

@@ -59,7 +59,10 @@ returns-2 c =
     let t = tracked (c .before .before .before .before) in
     let copied = rw (c .before .before .before .before .before .swept .ensures) at (c .before .before .copy-out .ensures) in
     let done = after-done (c .before .before .before .before .before .before .before .before .refusal .result) _ _ (c .before .before .before .before .before .before .if1 .left) in
-    record { answers = says (c .before .before .before .before .before .before .before .before); written = copied ∙ ap (λ (vs : List ℕ). front vs (a .dst .now)) (tracks-values t (a .src .now)) ∙ sym done }
+    record {
+      answers = says (c .before .before .before .before .before .before .before .before);
+      written = copied ∙ ap (λ (vs : List ℕ). front vs (a .dst .now)) (tracks-values t (a .src .now)) ∙ sym done;
+    }
 
 pub gather-spec : {M : Type 1} → statement M
 gather-spec =

@@ -82,11 +82,12 @@ returns-4 : tie.Need-returns-4
 returns-4 c =
     let a = c .before .before .before .before .before .before .before .before .before .args in
     let n = length (pixels (a .shape) (a .d) (a .line)) in
+    let ok = accepted (c .before .before .before .before .before) in
     let some = there (c .before .before .before) in
     let bytes = bytes-are (c .before .before) in
     c .refused4 .ensures
     ∙ ap (refusal 5) bytes
-    ∙ refused-source (a .shape) (a .d) (a .line) (a .size) (needed (a .shape)) (a .room) n (accepted (c .before .before .before .before .before)) some (rw bytes at (c .before .if4 .taken))
+    ∙ refused-source (a .shape) (a .d) (a .line) (a .size) (needed (a .shape)) (a .room) n ok some (rw bytes at (c .before .if4 .taken))
 
 refused-requires-5 : tie.Need-refused-requires-5
 refused-requires-5 c κs = search needs
@@ -95,12 +96,13 @@ returns-5 : tie.Need-returns-5
 returns-5 c =
     let a = c .before .before .before .before .before .before .before .before .before .before .args in
     let n = length (pixels (a .shape) (a .d) (a .line)) in
+    let ok = accepted (c .before .before .before .before .before .before) in
     let count = counted (c .before .before .before .before .before) in
     let some = there (c .before .before .before .before) in
     let whole = rw (bytes-are (c .before .before .before)) at (c .before .before .if4 .left) in
     c .refused5 .ensures
     ∙ ap (refusal 6) count
-    ∙ refused-room (a .shape) (a .d) (a .line) (a .size) (needed (a .shape)) (a .room) n (accepted (c .before .before .before .before .before .before)) some whole (rw count at (c .before .if5 .taken))
+    ∙ refused-room (a .shape) (a .d) (a .line) (a .size) (needed (a .shape)) (a .room) n ok some whole (rw count at (c .before .if5 .taken))
 
 done-requires : tie.Need-done-requires
 done-requires c κs = search needs
@@ -109,12 +111,13 @@ returns-6 : tie.Need-returns-6
 returns-6 c =
     let a = c .before .before .before .before .before .before .before .before .before .before .args in
     let n = length (pixels (a .shape) (a .d) (a .line)) in
+    let ok = accepted (c .before .before .before .before .before .before) in
     let count = counted (c .before .before .before .before .before) in
     let some = there (c .before .before .before .before) in
     let whole = rw (bytes-are (c .before .before .before)) at (c .before .before .if4 .left) in
     c .done .ensures
     ∙ ap done count
-    ∙ accepted-call (a .shape) (a .d) (a .line) (a .size) (needed (a .shape)) (a .room) n (accepted (c .before .before .before .before .before .before)) some whole (rw count at (c .before .if5 .left))
+    ∙ accepted-call (a .shape) (a .d) (a .line) (a .size) (needed (a .shape)) (a .room) n ok some whole (rw count at (c .before .if5 .left))
 
 pub refusal-spec : {M : Type 1} → statement M
 refusal-spec =

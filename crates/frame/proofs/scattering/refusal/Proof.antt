@@ -75,11 +75,12 @@ returns-4 : tie.Need-returns-4
 returns-4 c =
     let a = c .before .before .before .before .before .before .before .before .args in
     let n = length (pixels (a .shape) (a .d) (a .line)) in
+    let ok = accepted (c .before .before .before .before) in
     let count = counted (c .before .before .before) in
     let some = there (c .before .before) in
     c .refused4 .ensures
     ∙ ap (refusal 5) count
-    ∙ refused-source (a .shape) (a .d) (a .line) (a .size) n (a .room) (needed (a .shape)) (accepted (c .before .before .before .before)) some (rw count at (c .before .if4 .taken))
+    ∙ refused-source (a .shape) (a .d) (a .line) (a .size) n (a .room) (needed (a .shape)) ok some (rw count at (c .before .if4 .taken))
 
 bytes-requires : tie.Need-bytes-requires
 bytes-requires c κs = search needs
@@ -95,13 +96,14 @@ returns-5 : tie.Need-returns-5
 returns-5 c =
     let a = c .before .before .before .before .before .before .before .before .before .before .args in
     let n = length (pixels (a .shape) (a .d) (a .line)) in
+    let ok = accepted (c .before .before .before .before .before .before) in
     let count = counted (c .before .before .before .before .before) in
     let some = there (c .before .before .before .before) in
     let values = rw count at (c .before .before .before .if4 .left) in
     let bytes = bytes-are (c .before .before) in
     c .refused5 .ensures
     ∙ ap (refusal 6) bytes
-    ∙ refused-room (a .shape) (a .d) (a .line) (a .size) n (a .room) (needed (a .shape)) (accepted (c .before .before .before .before .before .before)) some values (rw bytes at (c .before .if5 .taken))
+    ∙ refused-room (a .shape) (a .d) (a .line) (a .size) n (a .room) (needed (a .shape)) ok some values (rw bytes at (c .before .if5 .taken))
 
 done-requires : tie.Need-done-requires
 done-requires c κs = search needs
@@ -110,12 +112,13 @@ returns-6 : tie.Need-returns-6
 returns-6 c =
     let a = c .before .before .before .before .before .before .before .before .before .before .args in
     let n = length (pixels (a .shape) (a .d) (a .line)) in
+    let ok = accepted (c .before .before .before .before .before .before) in
     let count = counted (c .before .before .before .before .before) in
     let some = there (c .before .before .before .before) in
     let values = rw count at (c .before .before .before .if4 .left) in
     c .done .ensures
     ∙ ap done count
-    ∙ accepted-call (a .shape) (a .d) (a .line) (a .size) n (a .room) (needed (a .shape)) (accepted (c .before .before .before .before .before .before)) some values (rw (bytes-are (c .before .before)) at (c .before .if5 .left))
+    ∙ accepted-call (a .shape) (a .d) (a .line) (a .size) n (a .room) (needed (a .shape)) ok some values (rw (bytes-are (c .before .before)) at (c .before .if5 .left))
 
 pub refusal-spec : {M : Type 1} → statement M
 refusal-spec =

@@ -57,7 +57,10 @@ returns-2 c =
     let t = tracked (c .before .before .before .before) in
     let copied = rw (c .before .before .before .before .before .swept .ensures) at (c .before .before .copy-in .ensures) in
     let done = after-done (c .before .before .before .before .before .before .before .before .refusal .result) _ _ (c .before .before .before .before .before .before .if1 .left) in
-    record { answers = says (c .before .before .before .before .before .before .before .before); written = copied ∙ ap (λ (cs : List ℕ). stored cs (a .src .now) (a .dst .now)) (sym (t .places)) ∙ sym done }
+    record {
+      answers = says (c .before .before .before .before .before .before .before .before);
+      written = copied ∙ ap (λ (cs : List ℕ). stored cs (a .src .now) (a .dst .now)) (sym (t .places)) ∙ sym done;
+    }
 
 pub scatter-spec : {M : Type 1} → statement M
 scatter-spec =

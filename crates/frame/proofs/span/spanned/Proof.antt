@@ -2,7 +2,6 @@
 use mathlib.Core.Path.{_≡_, sym, ap₂, _∙_}
 use Prim.Native.Nat.{ℕ, _-_}
 use native.Mathlib.Omega.{arith}
-use Rattle.frame.specs.declared.span.Span.{Span}
 use Rattle.frame.specs.declared.sweep.Sweep.{Sweep}
 use Rattle.frame.specs.Span.{spanFrom, spanEnd, spanning}
 use Rattle.frame.proofs.Shapes.{top-less}
@@ -11,7 +10,8 @@ use borrow.Author.Needs.{needs}
 use Rattle.frame.proofs.span.spanned.Statement.{statement}
 use Rattle.frame.proofs.span.spanned.Tie as tie
 
-by-ends : (s : Sweep) (u c : ℕ) {from end : ℕ} → from ≡ spanFrom s u c → end ≡ spanEnd s u c → _≡_ {A = Span} (record { from = from; count = end - from }) (spanning s u c)
+by-ends : (s : Sweep) (u c : ℕ) {from end : ℕ} → from ≡ spanFrom s u c → end ≡ spanEnd s u c
+    → record { from = from; count = end - from } ≡ spanning s u c
 by-ends s u c p q = ap₂ (λ (f e : ℕ). record { from = f; count = e - f }) p q
 
 skip-requires : tie.Need-skip-requires

@@ -75,7 +75,8 @@ rounded-requires c κs = let k = known (c .before) in omega (arith, k .left, k .
 returns : tie.Need-returns
 returns c =
     let k = known (c .before .before) in
-    is-shallow (c .before .before .before .before .before .before .before .args .shape) (c .before .before .before .before .before .before .before .args .d) (k .left) (k .right) (k .falls) (c .before .if1 .taken) (c .rounded .ensures)
+    let a = c .before .before .before .before .before .before .before .args in
+    is-shallow (a .shape) (a .d) (k .left) (k .right) (k .falls) (c .before .if1 .taken) (c .rounded .ensures)
 
 sub-rounded-2 : tie.Need-sub-rounded-2
 sub-rounded-2 c = known (c .before) .frame .high
@@ -86,7 +87,8 @@ rounded-requires-2 c κs = let k = known (c .before) in omega (arith, k .left, k
 returns-2 : tie.Need-returns-2
 returns-2 c =
     let k = known (c .before .before) in
-    is-steep (c .before .before .before .before .before .before .before .args .shape) (c .before .before .before .before .before .before .before .args .d) (k .left) (k .right) (k .falls) (c .before .if1 .left) (c .rounded2 .ensures)
+    let a = c .before .before .before .before .before .before .before .args in
+    is-steep (a .shape) (a .d) (k .left) (k .right) (k .falls) (c .before .if1 .left) (c .rounded2 .ensures)
 
 pub swept-spec : {M : Type 1} → statement M
 swept-spec =

@@ -61,7 +61,8 @@ returns-3 c =
     let u = c .before .before .before .before .index-of .result .at in
     let number = indexed (c .before .before .before .before) .found (not-false _ (c .before .before .if1 .left)) in
     let s = c .before .before .before .before .before .before .before .swept .ensures in
-    tracks-some (a .shape) (a .d) (c .before .before .before .before .before .before .before .before .pre) (a .line) u (c .spanned .result) number (rw s at (c .before .if2 .left)) (rw s at (c .spanned .ensures))
+    let ok = c .before .before .before .before .before .before .before .before .pre in
+    tracks-some (a .shape) (a .d) ok (a .line) u (c .spanned .result) number (rw s at (c .before .if2 .left)) (rw s at (c .spanned .ensures))
 
 pub track-of-spec : {M : Type 1} → statement M
 track-of-spec =

@@ -40,7 +40,9 @@ size-requires : tie.Need-size-requires
 size-requires c κs = search needs
 
 size-is : (c : tie.After-size) → c .size .result ≡ natAbs (c .before .before .before .before .before .before .before .args .self .p)
-size-is c = c .size .ensures ∙ ap natAbs (back (c .before .before .before .before .before .before .before .args .self .p) (c .before .before .before .before .before .before .struct-told .given .0 .1))
+size-is c =
+    let p = c .before .before .before .before .before .before .before .args .self .p in
+    c .size .ensures ∙ ap natAbs (back p (c .before .before .before .before .before .before .struct-told .given .0 .1))
 
 returns-3 : tie.Need-returns-3
 returns-3 c =
@@ -52,7 +54,8 @@ size-requires-2 c κs = search needs
 
 returns-4 : tie.Need-returns-4
 returns-4 c =
-    let q = ap natAbs (back (c .before .before .before .before .before .before .before .before .before .args .self .q) (c .before .before .before .before .before .before .before .before .struct-told .given .1 .0 .1)) in
+    let told = c .before .before .before .before .before .before .before .before .struct-told .given in
+    let q = ap natAbs (back (c .before .before .before .before .before .before .before .before .before .args .self .q) (told .1 .0 .1)) in
     let zero = eq-eqb _ 0 (sym (size-is (c .before .before)) ∙ c .before .if3 .left) in
     rw (left (c .before .before .before .before .before), right (c .before .before .before), zero) (ap (λ n. not (eqb n 0)) (c .size2 .ensures ∙ q))
 
