@@ -1,4 +1,20 @@
--- The laws of frame/specs.
+-- The laws of frame/specs. What document 01 says of directions, lines and frames:
+--   Directions     the sixteen ascend, and are directions
+--   Pixels         every pixel is on exactly one line; a line's pixels are an interval, and so are the numbers of the lines
+--   Opposites      (p, q) and (−p, −q) have the same lines
+--   ByLines        a frame treated line by line: one outcome; each pixel has the value at its place on its own line
+--   Examples       P11 and P12
+-- What the code and the crates above need:
+--   Numbers        line numbers as differences; the index of a number
+--   Rounding       the rounding r
+--   Signs          signed numbers at the machine's edge
+--   Shapes         what an accepted frame, an accepted direction and their sweep keep to
+--   Walks          the sweep has document 01's lines
+--   Spans          at which major coordinates lines have their pixels
+--   Tracks         where a line is, from its number
+--   Scatters       values stored at places
+--   Partition      no two pixels share a byte; one line treated after the other
+--   Calls          what the calls answer, and what they know once they are not refused
 pub mod Directions
 pub mod Numbers
 pub mod Rounding
@@ -9,8 +25,8 @@ pub mod Spans
 pub mod Pixels
 pub mod Opposites
 pub mod Examples
+pub mod Tracks
 pub mod Scatters
 pub mod Partition
 pub mod ByLines
-pub mod Tracks
 pub mod Calls

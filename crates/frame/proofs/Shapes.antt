@@ -97,7 +97,7 @@ module _ {sh : Shape} {d : Direction} (a : Accepted sh d) where
             wide = f .high;
             minors = f .height;
             major = omega arith;
-            apart = omega (arith, f);
+            step = omega (arith, f);
             minor = f .most;
             slow = slow;
             moves = omega (arith, v);
@@ -113,7 +113,7 @@ module _ {sh : Shape} {d : Direction} (a : Accepted sh d) where
             wide = f .wide;
             minors = f .width;
             major = f .most;
-            apart = omega arith;
+            step = omega arith;
             minor = omega arith;
             slow = omega arith;
             moves = omega (arith, v);

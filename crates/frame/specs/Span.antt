@@ -4,12 +4,12 @@
 --   spanFrom s u c       the first major coordinate at which one of the c lines from u on has a pixel
 --   spanEnd s u c        the one behind the last
 --   spanning s u c       both, as a start and a count
---   spanOf sh d u c      the same for a frame and a direction; no pixels where rules 1 and 2 refuse them, or there is no line u
+--   spanOf sh d u c      the same for a frame and a direction; no pixels where rule 1 or 2 refuses them, there is no line u, or c is not 1 to 4,096
 --   touched s u c i      one of the c lines from u on has a pixel at major coordinate i
---   Spans s u c w        w is a stretch of major coordinates, and touched holds just there
+--   Spans s u c from count    touched holds at the count major coordinates from `from` on, and at no other
 --   Indexed low k there at    the index of line number k, where there is one
 --   Tracks sh d k t      t is where line k of the frame has its pixels
--- Laws: frame/proofs/Spans.
+-- Laws: frame/proofs/Spans, Tracks.
 use mathlib.Core.Path.{_≡_}
 use mathlib.Core.Bool.{Bool, true, false, cond, _&&_}
 use mathlib.Core.List.{map}

@@ -83,7 +83,7 @@ pub record Sane (s : Sweep) : Type 0 where
   pub wide : 1 ≤ s .minors
   pub minors : s .minors ≤ longest
   pub major : s .major ≤ widest
-  pub apart : 1 ≤ s .minor
+  pub step : 1 ≤ s .minor
   pub minor : s .minor ≤ widest
   pub slow : s .rise ≤ s .run
   pub moves : 1 ≤ s .run

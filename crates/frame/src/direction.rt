@@ -10,7 +10,7 @@ pub struct Direction {
     pub q: i64,
 }
 
-// The sixteen numbered directions.
+// The sixteen numbered directions, the two with a name among them: what `numbered` promises settles these too.
 const NUMBERED: [Direction; 16] = [
     Direction::Along,
     Direction { p: 4, q: 1 },

@@ -37,7 +37,6 @@ loop-holds c = (omega arith, filled-none _ _ _)
 
 add-cell-of : tie.Need-add-cell-of Inv-loop μ-loop
 add-cell-of c =
-    let a = c .before .before .before .before .args in
     let pre = c .before .before .before .before .pre in
     omega (arith, pre .0, pre .2 .fits)
 
@@ -60,13 +59,11 @@ shared-slice-read-dst c =
 
 slice-write-dst : tie.Need-slice-write-dst Inv-loop μ-loop
 slice-write-dst c =
-    let a = c .before .before .before .before .before .before .args in
     let pre = c .before .before .before .before .before .before .pre in
     omega (arith, pre .3, c .before .before .before .loop .inv .1 .same, c .before .before .loop-test .taken)
 
 add-i : tie.Need-add-i Inv-loop μ-loop
 add-i c =
-    let a = c .before .before .before .before .before .before .args in
     let pre = c .before .before .before .before .before .before .pre in
     omega (arith, pre .3, c .before .before .loop-test .taken)
 

@@ -42,7 +42,6 @@ loop-holds c = (omega arith, refl, refl)
 
 add-cell-of : tie.Need-add-cell-of Inv-loop μ-loop
 add-cell-of c =
-    let a = c .before .before .before .before .args in
     let pre = c .before .before .before .before .pre in
     omega (arith, pre .0, pre .2 .fits)
 
@@ -56,7 +55,6 @@ cell-of-requires c κs =
 
 shared-slice-read-dst : tie.Need-shared-slice-read-dst Inv-loop μ-loop
 shared-slice-read-dst c =
-    let a = c .before .before .before .before .before .before .args in
     let pre = c .before .before .before .before .before .before .pre in
     omega (arith, pre .3, c .before .before .loop-test .taken)
 
@@ -71,7 +69,6 @@ slice-write-dst c =
 
 add-i : tie.Need-add-i Inv-loop μ-loop
 add-i c =
-    let a = c .before .before .before .before .before .before .args in
     let pre = c .before .before .before .before .before .before .pre in
     omega (arith, pre .3, c .before .before .loop-test .taken)
 
