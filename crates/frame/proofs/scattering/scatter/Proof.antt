@@ -26,6 +26,7 @@ says c = rw (toZ-ofZ (c .before .before .before .fits .line)) at (c .refusal .en
 
 returns : tie.Need-returns
 returns c =
+    let a = c .before .before .refusal .result in
     record { answers = says (c .before .before); written = sym (after-refused a _ _ (c .if1 .taken)) }
 
 fits : (c : tie.Else1) → (let a = c .before .before .before .before .before .args in Fits (a .shape) (a .d) (a .line) (length (a .dst .now)) (length (a .src .now)))
