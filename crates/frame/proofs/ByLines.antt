@@ -19,11 +19,12 @@ use Rattle.lists.proofs.Picks.{Picked}
 use Rattle.frame.specs.declared.direction.Direction.{Direction}
 use Rattle.frame.specs.declared.shape.Shape.{Shape}
 use Rattle.frame.specs.Direction.{isDirection, shallow, opposite}
+use Rattle.frame.specs.Shape.{isFrame}
 use Rattle.frame.specs.Lines.{lineOf, Pixel, at, pixels, place, gathered, lineRead}
 use Rattle.frame.specs.ByLines.{ByLines}
 use Rattle.frame.specs.Sweep.{sweeping, sweepOf, shift, low, hit, cell, cells, Swept}
 use Rattle.frame.proofs.Numbers.{Index, indexed}
-use Rattle.frame.proofs.Shapes.{directed}
+use Rattle.frame.proofs.Shapes.{Framed, framed, directed}
 use Rattle.frame.proofs.Walks.{hits, cells-mem, pixels-none, values-are}
 use Rattle.frame.proofs.Scatters.{flat}
 use Rattle.frame.proofs.Pixels.{on-its-line}
@@ -101,9 +102,9 @@ agree h k (b ∷ cs) c e m = go (agree h k cs c) (List·Memᴰ·cases-cons m)
 row-of : (w i x y : ℕ) → x < w → i ≡ y * w + x → (i % w ≡ x) × (i / w ≡ y)
 row-of w i x y h e = flat w (i % w) (i / w) x y (mod-lt i (omega arith)) h (omega (arith, div-add-mod' i w))
 
-pub one-outcome : (φ : List ℕ → List ℕ) (f : List ℕ) (sh : Shape) (d : Direction) (g a b : List ℕ) → 1 ≤ sh .width → sh .width ≤ sh .stride
+pub one-outcome : (φ : List ℕ → List ℕ) (f : List ℕ) (sh : Shape) (d : Direction) (g a b : List ℕ) → isFrame sh ≡ true
     → ByLines φ f sh d g a → ByLines φ f sh d g b → a ≡ b
-one-outcome φ f sh d g a b wide past p q =
+one-outcome φ f sh d g a b ok p q =
     ext-getD 0 a b (p .same ∙ sym (q .same)) (λ i h. byte i (less-or-not (i % sh .stride) (sh .width)) (less-or-not (i / sh .stride) (sh .height)))
   where
     pixel : (x y : ℕ) → x < sh .width → y < sh .height → getD a (place sh (at x y)) 0 ≡ getD b (place sh (at x y)) 0
@@ -114,11 +115,14 @@ one-outcome φ f sh d g a b wide past p q =
     gap : (i : ℕ) → Gap sh i → getD a i 0 ≡ getD b i 0
     gap i h = p .gaps i h ∙ sym (q .gaps i h)
 
+    shaped : Framed sh
+    shaped = framed sh ok
+
     byte : (i : ℕ) → (i % sh .stride < sh .width) ⊎ (sh .width ≤ i % sh .stride) → (i / sh .stride < sh .height) ⊎ (sh .height ≤ i / sh .stride)
         → getD a i 0 ≡ getD b i 0
     byte i (inl x) (inl y) = subst (λ (j : ℕ). getD a j 0 ≡ getD b j 0) (div-add-mod' i (sh .stride)) (pixel (i % sh .stride) (i / sh .stride) x y)
-    byte i (inl x) (inr y) = gap i (λ x' y' h k e. let z = row-of (sh .stride) i x' y' (omega arith) e .1 in omega arith)
-    byte i (inr x) y = gap i (λ x' y' h k e. let z = row-of (sh .stride) i x' y' (omega arith) e .0 in omega arith)
+    byte i (inl x) (inr y) = gap i (λ x' y' h k e. let z = row-of (sh .stride) i x' y' (omega (arith, shaped)) e .1 in omega arith)
+    byte i (inr x) y = gap i (λ x' y' h k e. let z = row-of (sh .stride) i x' y' (omega (arith, shaped)) e .0 in omega arith)
 
 -- ---- each pixel has the value at its place on its own line
 

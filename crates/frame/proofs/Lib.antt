@@ -3,6 +3,7 @@
 --   Pixels         every pixel is on exactly one line; a line's pixels are an interval, and so are the numbers of the lines
 --   Opposites      (p, q) and (−p, −q) have the same lines
 --   ByLines        a frame treated line by line: one outcome; each pixel has the value at its place on its own line
+--   Light          the totals of a frame's lines add up to the total of its pixels
 --   Examples       P11 and P12
 -- What the code and the crates above need:
 --   Numbers        line numbers as differences; the index of a number
@@ -29,4 +30,5 @@ pub mod Tracks
 pub mod Scatters
 pub mod Partition
 pub mod ByLines
+pub mod Light
 pub mod Calls

@@ -1,7 +1,7 @@
 -- Document 01 on the lines of a frame, as theorems about its definitions.
 --   exactly-one-line         'Every pixel of a frame is on exactly one line.' Its two halves: on-its-line, its-line
---   line-interval            a line's pixels are an interval of the major coordinate
---   first-is, count-is       the number and the count of the lines, by the sweep
+--   line-interval            a line's pixels are an interval of the major coordinate; pixels-most: no more than the longer side
+--   number, first-is, count-is    the number of a line's index, the first number and the count of the lines
 --   pixels-past              a line past the last has no pixels; empty-none, empty-some: what no pixels say
 --   line-among, among-line   the numbers of the lines that a frame has are an interval: lineCount of them from firstLine on
 -- Assumes nothing.
@@ -9,13 +9,14 @@ use mathlib.Core.Path.{_≡_, refl, sym, ap, ap₂, _∙_, subst}
 use mathlib.Core.Bool.{Bool, true, false, cond, true≢false}
 use mathlib.Core.Logic.{_⊎_, inl, inr, ⊎-elim}
 use mathlib.Core.List.{List, [], _∷_, map, List·Memᴰ, List·Memᴰ·head, List·Memᴰ·not-nil}
-use Prim.Native.Nat.{ℕ, zero, suc, _+_, _-_, _≤_, _<_, zero-le}
+use Prim.Native.Nat.{ℕ, zero, suc, _+_, _-_, _≤_, _<_, max, zero-le}
 use native.Mathlib.Omega.{arith}
 use borrow.Author.Tests.{le-ltb}
 use lib.ListN.{length}
 use lib.IntN.{ℤ, pos, negℤ, natAbs, subℕ, _+ℤ_, +ℤ-idr}
 use Rattle.lists.specs.Tables.{each, table}
 use Rattle.lists.proofs.Cases.{less-or-not}
+use Rattle.lists.proofs.Tables.{length-table}
 use Rattle.lists.proofs.Picks.{each-mem, each-in, keep-mem, those-in}
 use Rattle.frame.specs.declared.direction.Direction.{Direction}
 use Rattle.frame.specs.declared.shape.Shape.{Shape}
@@ -113,6 +114,7 @@ pub record Interval (sh : Shape) (d : Direction) (k : ℤ) : Type 0 where
   pub from : ℕ
   pub count : ℕ
   pub minor : ℕ → ℕ
+  pub fits : from + count ≤ cond (shallow d) (sh .width) (sh .height)
   pub is : pixels sh d k ≡ table (λ (i : ℕ). spot d (from + i) (minor i)) count
 
 -- line k is one of lineCount lines from firstLine on
@@ -121,8 +123,7 @@ pub record Among (sh : Shape) (d : Direction) (k : ℤ) : Type 0 where
   pub below : u < lineCount sh d
   pub is : firstLine sh d +ℤ pos u ≡ k
 
--- the number of a line's index
-number : (sh : Shape) (d : Direction) (u : ℕ) → firstLine sh d +ℤ pos u ≡ subℕ u (low (sweepOf sh d))
+pub number : (sh : Shape) (d : Direction) (u : ℕ) → firstLine sh d +ℤ pos u ≡ subℕ u (low (sweepOf sh d))
 unfolding sweepOf low
 number sh d u = go (shallow d) refl (opposite d) refl
   where
@@ -135,6 +136,14 @@ number sh d u = go (shallow d) refl (opposite d) refl
     go true e false f = rw (e, f) (down (r (natAbs (d .p)) (natAbs (d .q)) (sh .width - 1)))
     go false e true f = rw (e, f) (down 0)
     go false e false f = rw (e, f) (down (r (natAbs (d .q)) (natAbs (d .p)) (sh .height - 1)))
+
+majors-are : (sh : Shape) (d : Direction) → sweepOf sh d .majors ≡ cond (shallow d) (sh .width) (sh .height)
+unfolding sweepOf
+majors-are sh d = go (shallow d) refl
+  where
+    go : (t : Bool) → shallow d ≡ t → sweepOf sh d .majors ≡ cond (shallow d) (sh .width) (sh .height)
+    go true e = rw e
+    go false e = rw e
 
 pub first-is : (sh : Shape) (d : Direction) → firstLine sh d ≡ subℕ 0 (low (sweepOf sh d))
 first-is sh d = sym (+ℤ-idr (firstLine sh d)) ∙ number sh d 0
@@ -158,7 +167,7 @@ module _ (sh : Shape) (d : Direction) (ok : Accepted sh d) where
   line-interval k = go (indexed (low (sweepOf sh d)) k)
     where
       nothing : pixels sh d k ≡ [] → Interval sh d k
-      nothing e = record { from = 0; count = 0; minor = λ i. 0; is = e }
+      nothing e = record { from = 0; count = 0; minor = λ i. 0; fits = omega arith; is = e }
 
       go : Index (low (sweepOf sh d)) k ⊎ ((u : ℕ) → subℕ u (low (sweepOf sh d)) ≡ k → ⊥) → Interval sh d k
       go (inl x) =
@@ -170,6 +179,7 @@ module _ (sh : Shape) (d : Direction) (ok : Accepted sh d) where
             from = spanFrom s u 1;
             count = spanEnd s u 1 - spanFrom s u 1;
             minor = λ i. u - shift s (spanFrom s u 1 + i);
+            fits = omega (arith, spans s (sweep-sane ok) u 1 h (omega arith) .fits, majors-are sh d);
             is = ap (pixels sh d) (sym (x .is))
                 ∙ pixels-span sh d (accepted-some ok) u (spanFrom s u 1) (spanEnd s u 1 - spanFrom s u 1)
                 (spans s (sweep-sane ok) u 1 h (omega arith));
@@ -177,6 +187,20 @@ module _ (sh : Shape) (d : Direction) (ok : Accepted sh d) where
           (λ h. nothing (ap (pixels sh d) (sym (x .is)) ∙ pixels-past u h))
           (less-or-not u (lines s))
       go (inr none) = nothing (pixels-none sh d (accepted-some ok) k none)
+
+  -- so a line has no more pixels than the longer side
+  pub pixels-most : (k : ℤ) → length (pixels sh d k) ≤ max (sh .width) (sh .height)
+  pixels-most k = go (line-interval k) (shallow d) refl
+    where
+      longer : (t : Bool) → length (pixels sh d k) ≤ cond t (sh .width) (sh .height) → length (pixels sh d k) ≤ max (sh .width) (sh .height)
+      longer true h = omega arith
+      longer false h = omega arith
+
+      go : Interval sh d k → (t : Bool) → shallow d ≡ t → length (pixels sh d k) ≤ max (sh .width) (sh .height)
+      go p t e =
+          let n = ap length (p .is) ∙ length-table (λ (i : ℕ). spot d (p .from + i) (p .minor i)) (p .count) in
+          let side = rw e at (p .fits) in
+          longer t (omega (arith, n, side))
 
   pub line-among : (k : ℤ) → noLine sh d k ≡ false → Among sh d k
   line-among k e = go (indexed (low (sweepOf sh d)) k)

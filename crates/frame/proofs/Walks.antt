@@ -1,5 +1,5 @@
 -- The sweep has document 01's lines: the line of index u has the number u − low, and its pixels are those where the sweep has a hit, in line order.
---   hits, hit-at, value-on, value-off    what a hit says, and what a line's value is
+--   hits, hit-at, hit-below, hit-past, value-on, value-off    what a hit says, and what a line's value is
 --   number-is         the number of a pixel's line, by the line's index
 --   pixels-are        the pixels of a line; places-are: their bytes; values-are: what a frame has there
 --   pixels-none       a number below every index has no pixels
@@ -7,12 +7,12 @@
 --   cell-reach        each byte of a line lies before the last pixel's end
 -- Assumes nothing.
 use mathlib.Core.Path.{_≡_, refl, sym, ap, _∙_}
-use mathlib.Core.Bool.{Bool, true, false, cond}
+use mathlib.Core.Bool.{Bool, true, false, cond, and-false}
 use mathlib.Core.List.{List, [], map, map-map, List·Memᴰ}
 use Prim.Native.Nat.{ℕ, _+_, _-_, _*_, _≤_, _<_}
 use native.Mathlib.Omega.{arith}
 use native.Mathlib.Nat.{mul-le-mul-right}
-use borrow.Author.Tests.{leb-true, leb-false, ltb-true, le-leb, lt-ltb}
+use borrow.Author.Tests.{leb-true, leb-false, ltb-true, le-leb, lt-leb, lt-ltb, le-ltb}
 use lib.Dec.{leb, ltb}
 use lib.ListN.{getD}
 use lib.IntN.{ℤ, pos, negsuc, natAbs, subℕ, _-ℤ_, _*ℤ_}
@@ -41,6 +41,14 @@ hits s u i e = (
 pub hit-at : (s : Sweep) (u i : ℕ) → shift s i ≤ u → u < shift s i + s .minors → hit s u i ≡ true
 unfolding hit
 hit-at s u i h k = rw (le-leb (shift s i) u h, lt-ltb u (shift s i + s .minors) k)
+
+pub hit-below : (s : Sweep) (u i : ℕ) → u < shift s i → hit s u i ≡ false
+unfolding hit
+hit-below s u i h = rw (lt-leb (shift s i) u h)
+
+pub hit-past : (s : Sweep) (u i : ℕ) → shift s i + s .minors ≤ u → hit s u i ≡ false
+unfolding hit
+hit-past s u i h = rw (le-ltb u (shift s i + s .minors) h, and-false)
 
 pub value-on : (s : Sweep) (f : List ℕ) (u i : ℕ) → hit s u i ≡ true → value s f u i ≡ getD f (cell s u i) 0
 unfolding value

@@ -9,16 +9,18 @@
 --   place sh c         the byte of pixel c
 --   gathered f sh d k  the bytes of line k in the frame f, in line order
 --   lineRead f sh d k  what a call reads of line k
+--   light f sh         the total of a frame's pixels
 --   climb sh d         how far a line moves aside from one end of the frame to the other
 --   firstLine, lineCount    the lowest line number of a frame, and how many lines it has; linesOf has both
--- Laws: frame/proofs/Pixels, Numbers, Opposites.
+-- Laws: frame/proofs/Pixels, Opposites, Light.
 use mathlib.Core.Bool.{Bool, true, false, cond, _&&_}
 use mathlib.Core.List.{List, [], _∷_, map}
 use Prim.Native.Nat.{ℕ, _+_, _-_, _*_, _/_}
 use lib.Dec.{eqb}
 use lib.ListN.{getD}
 use lib.IntN.{ℤ, pos, negsuc, negℤ, natAbs, _-ℤ_, _*ℤ_}
-use Rattle.lists.specs.Tables.{each, keep}
+use Rattle.lists.specs.Tables.{each, keep, table}
+use Rattle.lists.specs.Extremes.{total}
 use Rattle.frame.specs.declared.direction.Direction.{Direction}
 use Rattle.frame.specs.declared.lines.Lines.{Lines}
 use Rattle.frame.specs.declared.shape.Shape.{Shape}
@@ -77,6 +79,10 @@ gathered f sh d k = map (λ (c : Pixel). getD f (place sh c) 0) (pixels sh d k)
 -- what every call that reads a line reads: its pixels as they are
 abbrev pub lineRead : List ℕ → Shape → Direction → ℤ → List ℕ
 lineRead f sh d k = gathered f sh d k
+
+-- 'the total of the source pixels', row by row
+abbrev pub light : List ℕ → Shape → ℕ
+light f sh = total (table (λ (y : ℕ). total (table (λ (x : ℕ). getD f (place sh (at x y)) 0) (sh .width))) (sh .height))
 
 -- 'Line numbers are signed and ascend.'
 abbrev pub climb : Shape → Direction → ℕ

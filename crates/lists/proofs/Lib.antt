@@ -4,8 +4,10 @@
 --   Extremes    least, greatest and total by their bounds
 --   Stores      a storing loop: none stored, one more, one stretch after another
 --   Picks       lists of those numbers that a test picks: what stands in them, and what they are
+--   Sums        totals of totals, by rows or by columns
 pub mod Cases
 pub mod Tables
 pub mod Extremes
 pub mod Stores
 pub mod Picks
+pub mod Sums
