@@ -26,7 +26,7 @@ use Rattle.frame.specs.Sweep.{sweeping, sweepOf, shift, low, hit, cell, 
 use Rattle.frame.proofs.Numbers.{Index, indexed}
 use Rattle.frame.proofs.Shapes.{Framed, framed, directed}
 use Rattle.frame.proofs.Walks.{hits, cells-mem, pixels-none, values-are}
-use Rattle.frame.proofs.Scatters.{flat}
+use Rattle.frame.proofs.Scatters.{sized-none, flat}
 use Rattle.frame.proofs.Pixels.{on-its-line}
 
 -- byte i is no pixel's
@@ -73,10 +73,6 @@ module _ (φ : List ℕ → List ℕ) (sized : (l : List ℕ) → length (φ l) 
         gaps = λ i h. p .gaps i (λ u m. cell-pixel sh d u i m h);
       }
     where
-      nil : (l : List ℕ) → length l ≡ 0 → l ≡ []
-      nil [] e = refl
-      nil (x ∷ xs) e = absurd (omega arith)
-
       line : (k : ℤ) → Index (low (sweepOf sh d)) k ⊎ ((u : ℕ) → subℕ u (low (sweepOf sh d)) ≡ k → ⊥) → gathered g′ sh d k ≡ φ (lineRead f sh d k)
       line k (inl x) =
           let some = directed d v .some in
@@ -85,7 +81,7 @@ module _ (φ : List ℕ → List ℕ) (sized : (l : List ℕ) → length (φ l) 
       line k (inr none) =
           let e = pixels-none sh d (directed d v .some) k none in
           ap (map (λ (c : Pixel). getD g′ (place sh c) 0)) e
-          ∙ sym (ap (λ (cs : List Pixel). φ (map (λ (c : Pixel). getD f (place sh c) 0) cs)) e ∙ nil (φ []) (sized []))
+          ∙ sym (ap (λ (cs : List Pixel). φ (map (λ (c : Pixel). getD f (place sh c) 0) cs)) e ∙ sized-none φ sized)
 
 -- ---- one outcome
 

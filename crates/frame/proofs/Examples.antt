@@ -8,7 +8,7 @@ use Rattle.frame.specs.Shape.{shape}
 use Rattle.frame.specs.Lines.{Pixel, at, pixels, r}
 
 -- the pixels of line k of a frame of 4 by 2 pixels in the direction (p, q)
-abbrev onFour : ℤ → ℤ → ℤ → List Pixel
+abbrev pub onFour : ℤ → ℤ → ℤ → List Pixel
 onFour p q k = pixels (shape 4 2 4) (dir p q) k
 
 -- '(P11) direction (2,1), line −1 is (1,0) (2,0) (3,1) and line −2 is (3,0)'

@@ -7,7 +7,7 @@
 use mathlib.Core.Path.{_≡_, refl, sym, ap, _∙_, subst}
 use mathlib.Core.Bool.{Bool, true, false}
 use mathlib.Core.Logic.{_⊎_, inl, inr, ⊎-elim}
-use mathlib.Core.List.{List, [], _∷_, map, List·Memᴰ, append-nil}
+use mathlib.Core.List.{List, map, List·Memᴰ, append-nil}
 use Prim.Native.Nat.{ℕ, zero, suc, _+_, _-_, _*_, _≤_, _<_}
 use native.Mathlib.Omega.{arith}
 use lib.ListN.{length, getD, length-map}
@@ -20,7 +20,7 @@ use Rattle.frame.specs.declared.sweep.Sweep.{Sweep}
 use Rattle.frame.specs.Lines.{pixels, place}
 use Rattle.frame.specs.Scattering.{stored}
 use Rattle.frame.specs.Sweep.{sweepOf, low, shift, lines, hit, cell, cells, valuesAt, Accepted, Sane, Reach, Apart, Swept}
-use Rattle.frame.proofs.Scatters.{flat, Distinct, distinct-next, stored-length, stored-off, stored-on, stored-apart}
+use Rattle.frame.proofs.Scatters.{sized-none, flat, Distinct, distinct-next, stored-length, stored-off, stored-on, stored-apart}
 use Rattle.frame.proofs.Numbers.{Index, indexed}
 use Rattle.frame.proofs.Shapes.{accepted-some, sweep-apart}
 use Rattle.frame.proofs.Walks.{hits, cells-mem, cell-reach, places-are, pixels-none}
@@ -124,11 +124,7 @@ module _ (φ : List ℕ → List ℕ) (sized : (l : List ℕ) → length (φ l) 
   pub partly-all : Sane s → (u : ℕ) (g : List ℕ) → lines s ≤ u → Partly φ s f g₀ u g → Swept φ s f g₀ g
   partly-all sane u g h p = record { same = p .same; lines = λ v. ⊎-elim (λ l. p .treated v l) (λ l. none v l) (less-or-not v u); gaps = p .gaps }
     where
-      nil : (l : List ℕ) → length l ≡ 0 → l ≡ []
-      nil [] e = refl
-      nil (x ∷ xs) e = absurd (omega arith)
-
       none : (v : ℕ) → u ≤ v → valuesAt g (cells s v (s .majors)) ≡ φ (valuesAt f (cells s v (s .majors)))
       none v l =
           let q = past-lines s sane v (omega arith) in
-          ap (valuesAt g) q ∙ sym (ap (λ (cs : List ℕ). φ (valuesAt f cs)) q ∙ nil (φ []) (sized []))
+          ap (valuesAt g) q ∙ sym (ap (λ (cs : List ℕ). φ (valuesAt f cs)) q ∙ sized-none φ sized)

@@ -3,6 +3,7 @@
 --   stored-off, stored-on, stored-apart         what stands at other places, at these, and on a line that has none of these
 --   Distinct, distinct-next                     no place twice
 --   flat                                        a place in a row, and its row
+--   sized-none                                  what keeps lengths makes nothing of nothing
 -- Assumes nothing.
 use mathlib.Core.Path.{_≡_, refl, sym, ap, ap₂, _∙_}
 use mathlib.Core.Logic.{⊎-elim}
@@ -76,3 +77,10 @@ pub stored-front : (cs vs ws f : List ℕ) → length vs ≡ length cs → store
 stored-front [] vs ws f e = refl
 stored-front (c ∷ cs) [] ws f e = absurd (omega arith)
 stored-front (c ∷ cs) (v ∷ vs) ws f e = stored-front cs vs ws (set f c v) (omega arith)
+
+pub sized-none : (φ : List ℕ → List ℕ) → ((l : List ℕ) → length (φ l) ≡ length l) → φ [] ≡ []
+sized-none φ sized = nil (φ []) (sized [])
+  where
+    nil : (l : List ℕ) → length l ≡ 0 → l ≡ []
+    nil [] e = refl
+    nil (x ∷ xs) e = absurd (omega arith)

@@ -5,7 +5,7 @@
 --   at x y             the pixel (x, y)
 --   onLine d k x y     the pixel (x, y) where it is on line k, else nothing
 --   pixels sh d k      the pixels of line k of a frame of shape sh, in line order
---   noLine sh d k      the frame has no such line
+--   noLine sh d k      the frame has no such line: it has no pixels (empty)
 --   place sh c         the byte of pixel c
 --   gathered f sh d k  the bytes of line k in the frame f, in line order
 --   lineRead f sh d k  what a call reads of line k

@@ -1,6 +1,7 @@
 -- The lines of a frame in unsigned numbers, for the code and the laws. The major coordinate is the one that ascends along a line, the minor the other.
 -- A line has an index from 0 up: its number is the index less `low`.
---   sweepOf sh d       the sweep of a frame in a direction; sweepFor also where rules 1 and 2 refuse them
+--   sweepOf sh d       the sweep of a frame in a direction (sweeping: by its numbers)
+--   sweepFor sh d      the same; noSweep where rule 1 or 2 refuses them
 --   shift s i          the index of the line of the pixel with major coordinate i and minor coordinate 0
 --   low s              how far below 0 the lowest line number is
 --   lines s            how many lines there are

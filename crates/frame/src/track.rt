@@ -15,6 +15,7 @@ pub(crate) struct Track {
     pub count: usize,
 }
 
+// Where line number `line` of an accepted frame is.
 pub(crate) fn track_of(shape: Shape, d: Direction, line: i64) -> Track
     requires { ⌜ Accepted shape d ⌝ }
     ensures { λ t. ⌜ Tracks shape d line t ⌝ }
