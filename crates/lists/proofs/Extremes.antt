@@ -1,5 +1,6 @@
 -- The least, the greatest and the total of a list, by their bounds.
 --   least-le, le-least              the least is below each number, and above whatever is below each
+--   least-cons, least-snoc          the least of a list with one number more, at its front or at its end
 --   le-those, those-le              the greatest of those values that a test picks, likewise
 --   total-append, total-table       the total of two lists, and of a table one value longer
 -- Assumes nothing.
@@ -7,7 +8,7 @@ use mathlib.Core.Path.{_≡_, refl, sym, ap, _∙_}
 use mathlib.Core.Bool.{Bool, true, false, false≢true}
 use mathlib.Core.List.{List, [], _∷_, _++_}
 use mathlib.Core.Logic.{⊎-elim}
-use Prim.Native.Nat.{ℕ, zero, suc, _+_, _≤_, _<_, max, zero-le, suc-le-suc}
+use Prim.Native.Nat.{ℕ, zero, suc, _+_, _≤_, _<_, min, max, zero-le, suc-le-suc}
 use native.Mathlib.Nat.{not-suc-le-zero, le-of-suc-le-suc, eq-or-lt-of-le, le-refl, le-trans, min-le-left, min-le-right, le-min, le-max-left, le-max-right, max-le}
 use native.Mathlib.Omega.{arith}
 use lib.ListN.{length, getD}
@@ -29,6 +30,17 @@ unfolding least
 le-least k [] h a = absurd (not-suc-le-zero h)
 le-least k (x ∷ []) h a = a 0 h
 le-least k (x ∷ (y ∷ ys)) h a = le-min (a 0 (omega arith)) (le-least k (y ∷ ys) (omega arith) (λ j l. a (suc j) (suc-le-suc l)))
+
+pub least-cons : (x : ℕ) (xs : List ℕ) → 0 < length xs → least (x ∷ xs) ≡ min x (least xs)
+unfolding least
+least-cons x [] h = absurd (not-suc-le-zero h)
+least-cons x (y ∷ ys) h = refl
+
+pub least-snoc : (xs : List ℕ) (v : ℕ) → 0 < length xs → least (xs ++ (v ∷ [])) ≡ min (least xs) v
+unfolding least
+least-snoc [] v h = absurd (not-suc-le-zero h)
+least-snoc (x ∷ []) v h = refl
+least-snoc (x ∷ (y ∷ ys)) v h = omega (arith, least-snoc (y ∷ ys) v (omega arith))
 
 -- ---- the greatest
 

@@ -1,0 +1,6 @@
+pub mod Levels
+pub mod Model
+pub mod Stack
+pub mod Turn
+pub mod Steps
+pub mod Counting

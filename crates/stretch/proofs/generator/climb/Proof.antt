@@ -1,0 +1,107 @@
+-- A pixel at the topmost run's level changes nothing, a brighter one opens a run, a darker one stops the climb.
+use Prim.Native.Nat.{_-_}
+use mathlib.Core.Path.{_∙_}
+use native.Mathlib.Omega.{arith}
+use lib.ListN.{length}
+use Rattle.stretch.proofs.Steps.{Climbing, climbing-start, climbing-stops, climbing-end, climbing-equal, climbing-more}
+use borrow.Author.Needs.{needs}
+use Rattle.stretch.proofs.generator.climb.Statement.{statement}
+use Rattle.stretch.proofs.generator.climb.Tie as tie
+
+abbrev Inv-loop : tie.InvT-loop
+Inv-loop line scratch₀ read₀ depth₀ top₀ scratch read depth top = Climbing line scratch₀ (record { read = read₀; depth = depth₀ }) scratch read depth top
+
+abbrev μ-loop : tie.MeasureT-loop
+μ-loop line scratch₀ read₀ depth₀ top₀ scratch read depth top = length line - read
+
+top-level-requires : tie.Need-top-level-requires Inv-loop μ-loop
+top-level-requires c κs = search needs
+
+loop-holds : tie.Need-loop-holds Inv-loop μ-loop
+loop-holds c =
+    let a = c .before .before .before .before .args in
+    climbing-start (a .line .now) (a .scratch .now) (a .at) (c .top-level .result) (c .before .before .before .before .pre .0) (c .before .before .before .before .pre .1) (c .top-level .ensures)
+
+shared-slice-read-wide : tie.Need-shared-slice-read-wide Inv-loop μ-loop
+shared-slice-read-wide c = search needs
+
+wide-requires : tie.Need-wide-requires Inv-loop μ-loop
+wide-requires c κs = search needs
+
+same-length : tie.Need-same-length Inv-loop μ-loop
+same-length c = c .before .before .before .before .loop .inv .kept
+
+returns : tie.Need-returns Inv-loop μ-loop
+returns c =
+    let a = c .before .before .before .before .before .before .before .before .before .args in
+    let l = c .before .before .before .before .loop in
+    climbing-stops (a .line .now) (a .scratch .now) (a .at) (l .scratch) (l .read) (l .depth) (l .top) (l .inv) (omega arith)
+
+add-read : tie.Need-add-read Inv-loop μ-loop
+add-read c = search needs
+
+loop-less : tie.Need-loop-less Inv-loop μ-loop
+loop-less c = search needs
+
+loop-again : tie.Need-loop-again Inv-loop μ-loop
+loop-again c =
+    let a = c .before .before .before .before .before .before .before .before .before .before .args in
+    let l = c .before .before .before .before .before .loop in
+    climbing-equal (a .line .now) (a .scratch .now) (a .at) (l .scratch) (l .read) (l .depth) (l .top) (l .inv) (omega arith) (omega arith)
+
+cast-put : tie.Need-cast-put Inv-loop μ-loop
+cast-put c = search needs
+
+put-requires : tie.Need-put-requires Inv-loop μ-loop
+put-requires c κs = search needs
+
+add-depth : tie.Need-add-depth Inv-loop μ-loop
+add-depth c = search needs
+
+add-read-2 : tie.Need-add-read-2 Inv-loop μ-loop
+add-read-2 c = search needs
+
+loop-less-2 : tie.Need-loop-less-2 Inv-loop μ-loop
+loop-less-2 c = search needs
+
+loop-again-2 : tie.Need-loop-again-2 Inv-loop μ-loop
+loop-again-2 c =
+    let a = c .before .before .before .before .before .before .before .before .before .before .before .before .before .before .args in
+    let l = c .before .before .before .before .before .before .before .before .before .loop in
+    let pixel = c .before .before .before .before .before .before .wide in
+    let stored = c .before .before .put in
+    climbing-more (a .line .now) (a .scratch .now) (a .at) (l .scratch) (l .read) (l .depth) (l .top) (l .inv) (omega arith)
+    (stored .last .0) (pixel .result) (pixel .ensures .0) (omega arith) (stored .kept .0) (stored .ensures)
+
+same-length-2 : tie.Need-same-length-2 Inv-loop μ-loop
+same-length-2 c = c .before .loop .inv .kept
+
+returns-2 : tie.Need-returns-2 Inv-loop μ-loop
+returns-2 c =
+    let a = c .before .before .before .before .before .before .args in
+    let l = c .before .loop in
+    climbing-end (a .line .now) (a .scratch .now) (a .at) (l .scratch) (l .read) (l .depth) (l .top) (l .inv) (omega arith)
+
+pub climb-spec : {M : Type 1} → statement M
+climb-spec =
+    tie.close
+    (tie.spec
+    Inv-loop
+    μ-loop
+    top-level-requires
+    loop-holds
+    shared-slice-read-wide
+    wide-requires
+    same-length
+    returns
+    add-read
+    loop-less
+    loop-again
+    cast-put
+    put-requires
+    add-depth
+    add-read-2
+    loop-less-2
+    loop-again-2
+    same-length-2
+    returns-2)

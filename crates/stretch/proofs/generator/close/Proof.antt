@@ -1,0 +1,83 @@
+-- The topmost run is ended by the line's end, or by the pixel at hand.
+use native.Mathlib.Omega.{arith}
+use Rattle.stretch.proofs.Steps.{finds-end, finds-fall}
+use borrow.Author.Needs.{needs}
+use Rattle.stretch.proofs.generator.close.Statement.{statement}
+use Rattle.stretch.proofs.generator.close.Tie as tie
+
+sub-last : tie.Need-sub-last
+sub-last c = search needs
+
+mul-pair-at : tie.Need-mul-pair-at
+mul-pair-at c = search needs
+
+pair-at-requires : tie.Need-pair-at-requires
+pair-at-requires c κs = search needs
+
+top-level-requires : tie.Need-top-level-requires
+top-level-requires c κs = search needs
+
+top-level-requires-2 : tie.Need-top-level-requires-2
+top-level-requires-2 c κs = search needs
+
+cast-end : tie.Need-cast-end
+cast-end c = search needs
+
+same-length : tie.Need-same-length
+same-length c = search needs
+
+returns : tie.Need-returns
+returns c =
+    let start = c .before .before .before .before .before .before .before .before .before in
+    let from = c .before .before .before .before .before .pair-at in
+    let level = c .before .before .before .top-level in
+    let under = c .before .top-level2 in
+    finds-end (start .args .line .now) (start .args .scratch .now) (start .args .at) (start .pre)
+    (from .result) (level .result) (under .result) (from .ensures) (level .ensures) (under .ensures) (omega arith)
+
+shared-slice-read-wide : tie.Need-shared-slice-read-wide
+shared-slice-read-wide c = search needs
+
+wide-requires : tie.Need-wide-requires
+wide-requires c κs = search needs
+
+brighter-requires : tie.Need-brighter-requires
+brighter-requires c κs = search needs
+
+fall-requires : tie.Need-fall-requires
+fall-requires c κs = search needs
+
+same-length-2 : tie.Need-same-length-2
+same-length-2 c = search needs
+
+returns-2 : tie.Need-returns-2
+returns-2 c =
+    let start = c .before .before .before .before .before .before .before .before .before .before .before .before .before .before .before .before in
+    let from = c .before .before .before .before .before .before .before .before .before .before .before .before .pair-at in
+    let level = c .before .before .before .before .before .before .before .before .before .before .top-level in
+    let under = c .before .before .before .before .before .before .before .before .top-level2 in
+    let pixel = c .before .before .before .before .before .wide in
+    let base = c .before .before .before .before .brighter in
+    let fell = c .before .before .fall in
+    finds-fall (start .args .line .now) (start .args .scratch .now) (start .args .at) (start .pre)
+    (from .result) (level .result) (under .result) (from .ensures) (level .ensures) (under .ensures)
+    (fell .last .0) (pixel .result) (base .result) (fell .result) (λ e. omega arith) (pixel .ensures .0) (base .ensures) (fell .kept .0) (fell .ensures)
+
+pub close-spec : {M : Type 1} → statement M
+close-spec =
+    tie.close
+    (tie.spec
+    sub-last
+    mul-pair-at
+    pair-at-requires
+    top-level-requires
+    top-level-requires-2
+    cast-end
+    same-length
+    returns
+    shared-slice-read-wide
+    wide-requires
+    brighter-requires
+    fall-requires
+    same-length-2
+    returns-2)

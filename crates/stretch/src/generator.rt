@@ -1,0 +1,172 @@
+// The bright stretches one after the other, in one reading of the line. Each step reads on until a run ends: the pixels that end none cost one comparison each.
+use crate::Place;
+use crate::Step;
+use crate::Stretch;
+use crate::runs::brighter;
+use crate::runs::pair_at;
+use crate::runs::put;
+use crate::runs::top_level;
+use crate::runs::wide;
+use answer::LONGEST;
+ghost use mathlib.Core.Path.{_≡_};
+ghost use Prim.Native.Nat.{_*_, _≤_, _<_};
+ghost use lib.ListN.{length};
+ghost use Rattle.stretch.specs.Generator.{beginning, isReady, noStep, Follows};
+ghost use Rattle.stretch.specs.Steps.{Ready, Begins, Climbs, Closes, Falls, Finds};
+
+// Where a reading begins.
+pub fn begin() -> Place
+    ensures { λ r. ⌜ r ≡ beginning ⌝ }
+{
+    Place { read: 0, depth: 0 }
+}
+
+// Whether a reading of n pixels can stand at a place, with `room` bytes of scratch.
+fn is_ready(n: usize, room: usize, at: Place) -> bool
+    ensures { λ r. ⌜ r ≡ isReady n room at ⌝ }
+{
+    if LONGEST < n {
+        return false;
+    }
+    if room < 4 * n {
+        return false;
+    }
+    if n < at.read {
+        return false;
+    }
+    at.depth <= at.read
+}
+
+// Where no run is open, the next pixel opens one, whatever its level.
+fn open_first(line: &[u8], scratch: &mut [u8], at: Place) -> Place
+    requires { ⌜ Ready (now line) (now scratch) at ⌝ }
+    ensures { λ r. ⌜ Begins (now (line .entry)) (now (scratch .entry)) at (now (scratch .exit)) r ⌝ }
+{
+    let read = at.read;
+    if at.depth != 0 {
+        return at;
+    }
+    if read == line.len() {
+        return at;
+    }
+    put(scratch, 0, read as u16, wide(line[read]));
+    Place {
+        read: read + 1,
+        depth: 1,
+    }
+}
+
+// Reads on over the pixels that end no run: one that outshines the topmost opens another.
+fn climb(line: &[u8], scratch: &mut [u8], at: Place) -> Place
+    requires { ⌜ Ready (now line) (now scratch) at × (0 < at .depth) ⌝ }
+    ensures { λ r. ⌜ Climbs (now (line .entry)) (now (scratch .entry)) at (now (scratch .exit)) r ⌝ }
+{
+    let mut read = at.read;
+    let mut depth = at.depth;
+    let mut top = top_level(scratch, depth);
+    while read < line.len() {
+        let v = wide(line[read]);
+        if v < top {
+            return Place { read, depth };
+        }
+        if v == top {
+            read += 1;
+        } else {
+            put(scratch, depth, read as u16, v);
+            depth += 1;
+            top = v;
+            read += 1;
+        }
+    }
+    Place { read, depth }
+}
+
+// A pixel v that is darker than the topmost of `depth` open runs ends it; the run goes on at level v, unless the one below holds v.
+fn fall(scratch: &mut [u8], depth: usize, v: u16) -> usize
+    requires { ⌜ (0 < depth) × (4 * depth ≤ length (now scratch)) ⌝ }
+    ensures { λ r. ⌜ Falls (now (scratch .entry)) depth v (now (scratch .exit)) r ⌝ }
+{
+    let last = depth - 1;
+    let start = pair_at(scratch, 4 * last);
+    let under = top_level(scratch, last);
+    if last == 0 {
+        put(scratch, last, start, v);
+        return depth;
+    }
+    if under < v {
+        put(scratch, last, start, v);
+        return depth;
+    }
+    last
+}
+
+// The topmost run ends here: the pixel at hand is darker, or the line is at its end.
+fn close(line: &[u8], scratch: &mut [u8], at: Place) -> Step
+    requires { ⌜ Closes (now line) (now scratch) at ⌝ }
+    ensures { λ r. ⌜ Finds (now (line .entry)) (now (scratch .entry)) at (now (scratch .exit)) r ⌝ }
+{
+    let read = at.read;
+    let depth = at.depth;
+    let last = depth - 1;
+    let start = pair_at(scratch, 4 * last);
+    let level = top_level(scratch, depth);
+    let under = top_level(scratch, last);
+    let end = read as u16;
+    if read == line.len() {
+        return Step {
+            found: true,
+            stretch: Stretch {
+                start,
+                end,
+                level,
+                base: under,
+            },
+            place: Place { read, depth: last },
+        };
+    }
+    let v = wide(line[read]);
+    let base = brighter(v, under);
+    let left = fall(scratch, depth, v);
+    Step {
+        found: true,
+        stretch: Stretch {
+            start,
+            end,
+            level,
+            base,
+        },
+        place: Place { read, depth: left },
+    }
+}
+
+// No stretch, and the place as it was.
+fn nothing(at: Place) -> Step
+    ensures { λ r. ⌜ r ≡ noStep at ⌝ }
+{
+    Step {
+        found: false,
+        stretch: Stretch {
+            start: 0,
+            end: 0,
+            level: 0,
+            base: 0,
+        },
+        place: at,
+    }
+}
+
+// The next stretch of a line and the place to go on from, where a reading that `begin` began stands at `at` and its open runs in the scratch.
+// Handed a place at which no reading can stand it finds nothing and changes nothing.
+pub fn next(line: &[u8], scratch: &mut [u8], at: Place) -> Step
+    ensures { λ r. ⌜ Follows (now (line .entry)) (now (scratch .entry)) at (now (scratch .exit)) r ⌝ }
+{
+    if !is_ready(line.len(), scratch.len(), at) {
+        return nothing(at);
+    }
+    let first = open_first(line, scratch, at);
+    if first.depth == 0 {
+        return nothing(at);
+    }
+    let here = climb(line, scratch, first);
+    close(line, scratch, here)
+}
