@@ -155,18 +155,26 @@ fn nothing(at: Place) -> Step
     }
 }
 
-// The next stretch of a line and the place to go on from, where a reading that `begin` began stands at `at` and its open runs in the scratch.
-// Handed a place at which no reading can stand it finds nothing and changes nothing.
-pub fn next(line: &[u8], scratch: &mut [u8], at: Place) -> Step
+// One step of a reading that stands at `at`: on to where a run ends, and that run.
+fn find(line: &[u8], scratch: &mut [u8], at: Place) -> Step
+    requires { ⌜ Ready (now line) (now scratch) at ⌝ }
     ensures { λ r. ⌜ Follows (now (line .entry)) (now (scratch .entry)) at (now (scratch .exit)) r ⌝ }
 {
-    if !is_ready(line.len(), scratch.len(), at) {
-        return nothing(at);
-    }
     let first = open_first(line, scratch, at);
     if first.depth == 0 {
         return nothing(at);
     }
     let here = climb(line, scratch, first);
     close(line, scratch, here)
+}
+
+// The next stretch of a line and the place to go on from, where a reading that `begin` began stands at `at`, its open runs in the scratch.
+// Handed a place at which no reading can stand, it finds nothing and changes nothing.
+pub fn next(line: &[u8], scratch: &mut [u8], at: Place) -> Step
+    ensures { λ r. ⌜ Follows (now (line .entry)) (now (scratch .entry)) at (now (scratch .exit)) r ⌝ }
+{
+    if is_ready(line.len(), scratch.len(), at) {
+        return find(line, scratch, at);
+    }
+    nothing(at)
 }

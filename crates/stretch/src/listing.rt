@@ -64,12 +64,13 @@ pub fn list(line: &[u8], table: &mut [Stretch], scratch: &mut [u8]) -> Answer
     let mut i: usize = 0;
     loop {
         let step = next(line, scratch, at);
-        if !step.found {
+        if step.found {
+            table[i] = step.stretch;
+            at = step.place;
+            i += 1;
+        } else {
             break;
         }
-        table[i] = step.stretch;
-        at = step.place;
-        i += 1;
     }
     finish(a, i)
 }
