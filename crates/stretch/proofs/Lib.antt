@@ -4,3 +4,5 @@ pub mod Stack
 pub mod Turn
 pub mod Steps
 pub mod Counting
+pub mod Again
+pub mod Laying
