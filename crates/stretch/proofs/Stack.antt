@@ -21,59 +21,43 @@ stack-set (suc d) m i v h =
       getD-set-other m i (4 * d) v 0 (λ e. omega arith),
       getD-set-other m i (4 * d + 1) v 0 (λ e. omega arith),
       getD-set-other m i (4 * d + 2) v 0 (λ e. omega arith),
-      getD-set-other m i (4 * d + 2 + 1) v 0 (λ e. omega arith),
       stack-set d m i v (omega arith),
     )
 
--- four stores side by side, each read back
-abbrev four : List ℕ → ℕ → ℕ → ℕ → ℕ → ℕ → List ℕ
-four m at w x y z = set (set (set (set m at w) (at + 1) x) (at + 2) y) (at + 3) z
+-- three stores side by side, each read back
+abbrev three : List ℕ → ℕ → ℕ → ℕ → ℕ → List ℕ
+three m at x y z = set (set (set m at x) (at + 1) y) (at + 2) z
 
-module _ (m : List ℕ) (at w x y z : ℕ) (h : at + 4 ≤ length m) where
-  four-0 : getD (four m at w x y z) at 0 ≡ w
-  four-0 =
+module _ (m : List ℕ) (at x y z : ℕ) (h : at + 3 ≤ length m) where
+  three-0 : getD (three m at x y z) at 0 ≡ x
+  three-0 =
       rw (
-        getD-set-other (set (set (set m at w) (at + 1) x) (at + 2) y) (at + 3) at z 0 (λ e. omega arith),
-        getD-set-other (set (set m at w) (at + 1) x) (at + 2) at y 0 (λ e. omega arith),
-        getD-set-other (set m at w) (at + 1) at x 0 (λ e. omega arith),
+        getD-set-other (set (set m at x) (at + 1) y) (at + 2) at z 0 (λ e. omega arith),
+        getD-set-other (set m at x) (at + 1) at y 0 (λ e. omega arith),
       )
-      (getD-set-same m at w 0 (omega arith))
+      (getD-set-same m at x 0 (omega arith))
 
-  four-1 : getD (four m at w x y z) (at + 1) 0 ≡ x
-  four-1 =
-      rw (
-        getD-set-other (set (set (set m at w) (at + 1) x) (at + 2) y) (at + 3) (at + 1) z 0 (λ e. omega arith),
-        getD-set-other (set (set m at w) (at + 1) x) (at + 2) (at + 1) y 0 (λ e. omega arith),
-      )
-      (getD-set-same (set m at w) (at + 1) x 0 (simp length-set (omega arith)))
+  three-1 : getD (three m at x y z) (at + 1) 0 ≡ y
+  three-1 =
+      rw (getD-set-other (set (set m at x) (at + 1) y) (at + 2) (at + 1) z 0 (λ e. omega arith))
+      (getD-set-same (set m at x) (at + 1) y 0 (simp length-set (omega arith)))
 
-  four-2 : getD (four m at w x y z) (at + 2) 0 ≡ y
-  four-2 =
-      rw (getD-set-other (set (set (set m at w) (at + 1) x) (at + 2) y) (at + 3) (at + 2) z 0 (λ e. omega arith))
-      (getD-set-same (set (set m at w) (at + 1) x) (at + 2) y 0 (simp length-set (omega arith)))
-
-  four-3 : getD (four m at w x y z) (at + 2 + 1) 0 ≡ z
-  four-3 =
-      let e : at + 2 + 1 ≡ at + 3 = omega arith in
-      rw e (getD-set-same (set (set (set m at w) (at + 1) x) (at + 2) y) (at + 3) z 0 (simp length-set (omega arith)))
+  three-2 : getD (three m at x y z) (at + 2) 0 ≡ z
+  three-2 = getD-set-same (set (set m at x) (at + 1) y) (at + 2) z 0 (simp length-set (omega arith))
 
 -- the run that is stored as number i is on top of the i before it
 pub stack-put : (m : List ℕ) (i s l : ℕ) → 4 * i + 4 ≤ length m
-    → stackOf (set (set (set (set m (4 * i) (s % 256)) (4 * i + 1) (s / 256)) (4 * i + 2) (l % 256)) (4 * i + 3) (l / 256)) (suc i)
-    ≡ record { start = s; level = l } ∷ stackOf m i
+    → stackOf (set (set (set m (4 * i) (s % 256)) (4 * i + 1) (s / 256)) (4 * i + 2) l) (suc i) ≡ record { start = s; level = l } ∷ stackOf m i
 unfolding stackOf
 stack-put m i s l h =
-    let a : s % 256 + 256 * (s / 256) ≡ s = omega arith in
-    let b : l % 256 + 256 * (l / 256) ≡ l = omega arith in
+    let e : s % 256 + 256 * (s / 256) ≡ s = omega arith in
+    let h₃ : 4 * i + 3 ≤ length m = omega arith in
     rw (
-      four-0 m (4 * i) (s % 256) (s / 256) (l % 256) (l / 256) h,
-      four-1 m (4 * i) (s % 256) (s / 256) (l % 256) (l / 256) h,
-      four-2 m (4 * i) (s % 256) (s / 256) (l % 256) (l / 256) h,
-      four-3 m (4 * i) (s % 256) (s / 256) (l % 256) (l / 256) h,
-      a,
-      b,
-      stack-set i _ (4 * i + 3) (l / 256) (omega arith),
-      stack-set i _ (4 * i + 2) (l % 256) (omega arith),
+      three-0 m (4 * i) (s % 256) (s / 256) l h₃,
+      three-1 m (4 * i) (s % 256) (s / 256) l h₃,
+      three-2 m (4 * i) (s % 256) (s / 256) l h₃,
+      e,
+      stack-set i _ (4 * i + 2) l (omega arith),
       stack-set i _ (4 * i + 1) (s / 256) (omega arith),
       stack-set i _ (4 * i) (s % 256) (omega arith),
     )

@@ -1,6 +1,6 @@
 -- The generator: a reading of a line stands at a place, its open runs in the lent scratch, and each step finds the next stretch.
 --   pairAt m i           the number of two bytes at i, the low one first
---   runAt m i            the run number i of the scratch m: four bytes
+--   runAt m i            the run number i of the scratch m: two bytes of start, one of level, one free
 --   stackOf m d          the first d runs of the scratch m, the last on top
 --   toCome f m p         the stretches of the line f still to come at the place p, with the scratch m
 --   beginning            the place where a reading begins: from there every stretch is to come
@@ -24,7 +24,7 @@ abbrev pub pairAt : List ℕ → ℕ → ℕ
 pairAt m i = getD m i 0 + 256 * getD m (i + 1) 0
 
 abbrev pub runAt : List ℕ → ℕ → Run
-runAt m i = record { start = pairAt m (4 * i); level = pairAt m (4 * i + 2) }
+runAt m i = record { start = pairAt m (4 * i); level = getD m (4 * i + 2) 0 }
 
 unfoldable pub stackOf : List ℕ → ℕ → List Run
 stackOf m zero = []

@@ -49,7 +49,7 @@ fn open_first(line: &[u8], scratch: &mut [u8], at: Place) -> Place
     if read == line.len() {
         return at;
     }
-    put(scratch, 0, read as u16, wide(line[read]));
+    put(scratch, 0, read as u16, line[read]);
     Place {
         read: read + 1,
         depth: 1,
@@ -65,7 +65,7 @@ fn climb(line: &[u8], scratch: &mut [u8], at: Place) -> Place
     let mut depth = at.depth;
     let mut top = top_level(scratch, depth);
     while read < line.len() {
-        let v = wide(line[read]);
+        let v = line[read];
         if v < top {
             return Place { read, depth };
         }
@@ -82,7 +82,7 @@ fn climb(line: &[u8], scratch: &mut [u8], at: Place) -> Place
 }
 
 // A pixel v that is darker than the topmost of `depth` open runs ends it; the run goes on at level v, unless the one below holds v.
-fn fall(scratch: &mut [u8], depth: usize, v: u16) -> usize
+fn fall(scratch: &mut [u8], depth: usize, v: u8) -> usize
     requires { ⌜ (0 < depth) × (4 * depth ≤ length (now scratch)) ⌝ }
     ensures { λ r. ⌜ Falls (now (scratch .entry)) depth v (now (scratch .exit)) r ⌝ }
 {
@@ -109,7 +109,7 @@ fn close(line: &[u8], scratch: &mut [u8], at: Place) -> Step
     let depth = at.depth;
     let last = depth - 1;
     let start = pair_at(scratch, 4 * last);
-    let level = top_level(scratch, depth);
+    let level = wide(top_level(scratch, depth));
     let under = top_level(scratch, last);
     let end = read as u16;
     if read == line.len() {
@@ -119,13 +119,13 @@ fn close(line: &[u8], scratch: &mut [u8], at: Place) -> Step
                 start,
                 end,
                 level,
-                base: under,
+                base: wide(under),
             },
             place: Place { read, depth: last },
         };
     }
-    let v = wide(line[read]);
-    let base = brighter(v, under);
+    let v = line[read];
+    let base = wide(brighter(v, under));
     let left = fall(scratch, depth, v);
     Step {
         found: true,

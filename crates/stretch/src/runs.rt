@@ -1,4 +1,5 @@
-// The open runs of a reading, as they lie in the lent scratch: a stack of four bytes a run, its start and its level, each the low byte first.
+// The open runs of a reading, as they lie in the lent scratch: a stack of four bytes a run, two of start, one of level and one free.
+// The level is one byte and is read as one: a byte that is read as half of a pair just stored waits for the store.
 ghost use mathlib.Core.Path.{_≡_};
 ghost use mathlib.Core.List.{_∷_};
 ghost use Prim.Native.Nat.{suc, _+_, _*_, _≤_, _<_, max};
@@ -12,7 +13,7 @@ pub(crate) fn wide(x: u8) -> u16
     x as u16
 }
 
-pub(crate) fn brighter(a: u16, b: u16) -> u16
+pub(crate) fn brighter(a: u8, b: u8) -> u8
     ensures { λ r. ⌜ r ≡ max a b ⌝ }
 {
     if a < b { b } else { a }
@@ -26,24 +27,23 @@ pub(crate) fn pair_at(scratch: &[u8], at: usize) -> u16
 }
 
 // Stores a run as number i; those before it stay.
-pub(crate) fn put(scratch: &mut [u8], i: usize, start: u16, level: u16)
+pub(crate) fn put(scratch: &mut [u8], i: usize, start: u16, level: u8)
     requires { ⌜ 4 * i + 4 ≤ length (now scratch) ⌝ }
     ensures { λ _. ⌜ stackOf (now (scratch .exit)) (suc i) ≡ record { start = start; level = level } ∷ stackOf (now (scratch .entry)) i ⌝ }
 {
     let at = 4 * i;
     scratch[at] = (start % 256) as u8;
     scratch[at + 1] = (start / 256) as u8;
-    scratch[at + 2] = (level % 256) as u8;
-    scratch[at + 3] = (level / 256) as u8;
+    scratch[at + 2] = level;
 }
 
 // The level of the topmost of `depth` runs, 0 where there is none.
-pub(crate) fn top_level(scratch: &[u8], depth: usize) -> u16
+pub(crate) fn top_level(scratch: &[u8], depth: usize) -> u8
     requires { ⌜ 4 * depth ≤ length (now scratch) ⌝ }
     ensures { λ r. ⌜ r ≡ topLevel (stackOf (now (scratch .entry)) depth) ⌝ }
 {
     if depth == 0 {
         return 0;
     }
-    pair_at(scratch, 4 * (depth - 1) + 2)
+    scratch[4 * (depth - 1) + 2]
 }

@@ -1,8 +1,8 @@
 -- A pixel at the topmost run's level changes nothing, a brighter one opens a run, a darker one stops the climb.
 use Prim.Native.Nat.{_-_}
-use mathlib.Core.Path.{_∙_}
+use mathlib.Core.Path.{refl}
 use native.Mathlib.Omega.{arith}
-use lib.ListN.{length}
+use lib.ListN.{length, getD}
 use Rattle.stretch.proofs.Steps.{Climbing, climbing-start, climbing-stops, climbing-end, climbing-equal, climbing-more}
 use borrow.Author.Needs.{needs}
 use Rattle.stretch.proofs.generator.climb.Statement.{statement}
@@ -22,19 +22,16 @@ loop-holds c =
     let a = c .before .before .before .before .args in
     climbing-start (a .line .now) (a .scratch .now) (a .at) (c .top-level .result) (c .before .before .before .before .pre .0) (c .before .before .before .before .pre .1) (c .top-level .ensures)
 
-shared-slice-read-wide : tie.Need-shared-slice-read-wide Inv-loop μ-loop
-shared-slice-read-wide c = search needs
-
-wide-requires : tie.Need-wide-requires Inv-loop μ-loop
-wide-requires c κs = search needs
+shared-slice-read-v : tie.Need-shared-slice-read-v Inv-loop μ-loop
+shared-slice-read-v c = search needs
 
 same-length : tie.Need-same-length Inv-loop μ-loop
-same-length c = c .before .before .before .before .loop .inv .kept
+same-length c = c .before .before .before .loop .inv .kept
 
 returns : tie.Need-returns Inv-loop μ-loop
 returns c =
-    let a = c .before .before .before .before .before .before .before .before .before .args in
-    let l = c .before .before .before .before .loop in
+    let a = c .before .before .before .before .before .before .before .before .args in
+    let l = c .before .before .before .loop in
     climbing-stops (a .line .now) (a .scratch .now) (a .at) (l .scratch) (l .read) (l .depth) (l .top) (l .inv) (omega arith)
 
 add-read : tie.Need-add-read Inv-loop μ-loop
@@ -45,8 +42,8 @@ loop-less c = search needs
 
 loop-again : tie.Need-loop-again Inv-loop μ-loop
 loop-again c =
-    let a = c .before .before .before .before .before .before .before .before .before .before .args in
-    let l = c .before .before .before .before .before .loop in
+    let a = c .before .before .before .before .before .before .before .before .before .args in
+    let l = c .before .before .before .before .loop in
     climbing-equal (a .line .now) (a .scratch .now) (a .at) (l .scratch) (l .read) (l .depth) (l .top) (l .inv) (omega arith) (omega arith)
 
 cast-put : tie.Need-cast-put Inv-loop μ-loop
@@ -66,12 +63,11 @@ loop-less-2 c = search needs
 
 loop-again-2 : tie.Need-loop-again-2 Inv-loop μ-loop
 loop-again-2 c =
-    let a = c .before .before .before .before .before .before .before .before .before .before .before .before .before .before .args in
-    let l = c .before .before .before .before .before .before .before .before .before .loop in
-    let pixel = c .before .before .before .before .before .before .wide in
+    let a = c .before .before .before .before .before .before .before .before .before .before .before .before .before .args in
+    let l = c .before .before .before .before .before .before .before .before .loop in
     let stored = c .before .before .put in
     climbing-more (a .line .now) (a .scratch .now) (a .at) (l .scratch) (l .read) (l .depth) (l .top) (l .inv) (omega arith)
-    (stored .last .0) (pixel .result) (pixel .ensures .0) (omega arith) (stored .kept .0) (stored .ensures)
+    (stored .last .0) (getD (a .line .now) (l .read) 0) refl (omega arith) (stored .kept .0) (stored .ensures)
 
 same-length-2 : tie.Need-same-length-2 Inv-loop μ-loop
 same-length-2 c = c .before .loop .inv .kept
@@ -90,8 +86,7 @@ climb-spec =
     μ-loop
     top-level-requires
     loop-holds
-    shared-slice-read-wide
-    wide-requires
+    shared-slice-read-v
     same-length
     returns
     add-read

@@ -1,5 +1,7 @@
 -- The topmost run is ended by the line's end, or by the pixel at hand.
+use mathlib.Core.Path.{refl, _∙_}
 use native.Mathlib.Omega.{arith}
+use lib.ListN.{getD}
 use Rattle.stretch.proofs.Steps.{finds-end, finds-fall}
 use borrow.Author.Needs.{needs}
 use Rattle.stretch.proofs.generator.close.Statement.{statement}
@@ -17,32 +19,38 @@ pair-at-requires c κs = search needs
 top-level-requires : tie.Need-top-level-requires
 top-level-requires c κs = search needs
 
+wide-requires : tie.Need-wide-requires
+wide-requires c κs = search needs
+
 top-level-requires-2 : tie.Need-top-level-requires-2
 top-level-requires-2 c κs = search needs
 
 cast-end : tie.Need-cast-end
 cast-end c = search needs
 
+wide-requires-2 : tie.Need-wide-requires-2
+wide-requires-2 c κs = search needs
+
 same-length : tie.Need-same-length
 same-length c = search needs
 
 returns : tie.Need-returns
 returns c =
-    let start = c .before .before .before .before .before .before .before .before .before in
-    let from = c .before .before .before .before .before .pair-at in
-    let level = c .before .before .before .top-level in
-    let under = c .before .top-level2 in
-    finds-end (start .args .line .now) (start .args .scratch .now) (start .args .at) (start .pre)
-    (from .result) (level .result) (under .result) (from .ensures) (level .ensures) (under .ensures) (omega arith)
+    let start = c .before .before .before .before .before .before .before .before .before .before .before in
+    let from = c .before .before .before .before .before .before .before .pair-at in
+    let level = c .before .before .before .before .wide in
+    let base = c .wide2 in
+    finds-end (start .args .line .now) (start .args .scratch .now) (start .args .at) (start .pre) (from .result) (level .result) (base .result)
+    (from .ensures) (level .ensures .0 ∙ c .before .before .before .before .before .top-level .ensures) (base .ensures .0 ∙ c .before .before .top-level2 .ensures) (omega arith)
 
-shared-slice-read-wide : tie.Need-shared-slice-read-wide
-shared-slice-read-wide c = search needs
-
-wide-requires : tie.Need-wide-requires
-wide-requires c κs = search needs
+shared-slice-read-v : tie.Need-shared-slice-read-v
+shared-slice-read-v c = search needs
 
 brighter-requires : tie.Need-brighter-requires
 brighter-requires c κs = search needs
+
+wide-requires-3 : tie.Need-wide-requires-3
+wide-requires-3 c κs = search needs
 
 fall-requires : tie.Need-fall-requires
 fall-requires c κs = search needs
@@ -52,16 +60,17 @@ same-length-2 c = search needs
 
 returns-2 : tie.Need-returns-2
 returns-2 c =
-    let start = c .before .before .before .before .before .before .before .before .before .before .before .before .before .before .before .before in
-    let from = c .before .before .before .before .before .before .before .before .before .before .before .before .pair-at in
-    let level = c .before .before .before .before .before .before .before .before .before .before .top-level in
+    let start = c .before .before .before .before .before .before .before .before .before .before .before .before .before .before .before .before .before in
+    let f = start .args .line .now in
+    let from = c .before .before .before .before .before .before .before .before .before .before .before .before .before .pair-at in
+    let level = c .before .before .before .before .before .before .before .before .before .before .wide in
     let under = c .before .before .before .before .before .before .before .before .top-level2 in
-    let pixel = c .before .before .before .before .before .wide in
-    let base = c .before .before .before .before .brighter in
+    let base = c .before .before .before .before .wide3 in
     let fell = c .before .before .fall in
-    finds-fall (start .args .line .now) (start .args .scratch .now) (start .args .at) (start .pre)
-    (from .result) (level .result) (under .result) (from .ensures) (level .ensures) (under .ensures)
-    (fell .last .0) (pixel .result) (base .result) (fell .result) (λ e. omega arith) (pixel .ensures .0) (base .ensures) (fell .kept .0) (fell .ensures)
+    finds-fall f (start .args .scratch .now) (start .args .at) (start .pre) (from .result) (level .result) (under .result)
+    (from .ensures) (level .ensures .0 ∙ c .before .before .before .before .before .before .before .before .before .before .before .top-level .ensures) (under .ensures)
+    (fell .last .0) (getD f (start .args .at .read) 0) (base .result) (fell .result) (λ e. omega arith) refl
+    (base .ensures .0 ∙ c .before .before .before .before .before .brighter .ensures) (fell .kept .0) (fell .ensures)
 
 pub close-spec : {M : Type 1} → statement M
 close-spec =
@@ -71,13 +80,15 @@ close-spec =
     mul-pair-at
     pair-at-requires
     top-level-requires
+    wide-requires
     top-level-requires-2
     cast-end
+    wide-requires-2
     same-length
     returns
-    shared-slice-read-wide
-    wide-requires
+    shared-slice-read-v
     brighter-requires
+    wide-requires-3
     fall-requires
     same-length-2
     returns-2)

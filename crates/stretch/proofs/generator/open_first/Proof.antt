@@ -1,5 +1,6 @@
 -- Some run is open already, or the line is at its end, or the pixel opens the first run.
-use native.Mathlib.Omega.{arith}
+use mathlib.Core.Path.{refl}
+use lib.ListN.{getD}
 use Rattle.stretch.proofs.Steps.{begins-as, begins-end, begins-first}
 use borrow.Author.Needs.{needs}
 use Rattle.stretch.proofs.generator.open_first.Statement.{statement}
@@ -18,11 +19,8 @@ returns-2 c =
 cast-put : tie.Need-cast-put
 cast-put c = search needs
 
-shared-slice-read-wide : tie.Need-shared-slice-read-wide
-shared-slice-read-wide c = search needs
-
-wide-requires : tie.Need-wide-requires
-wide-requires c κs = search needs
+shared-slice-read-put : tie.Need-shared-slice-read-put
+shared-slice-read-put c = search needs
 
 put-requires : tie.Need-put-requires
 put-requires c κs = search needs
@@ -35,12 +33,11 @@ same-length c = search needs
 
 returns-3 : tie.Need-returns-3
 returns-3 c =
-    let start = c .before .before .before .before .before .before .before .before .before .before .before in
+    let start = c .before .before .before .before .before .before .before .before .before .before in
     let f = start .args .line .now in
-    let m = start .args .scratch .now in
-    let pixel = c .before .before .before .wide in
-    begins-first f m (start .args .at) (start .pre) (c .before .before .put .last .0) (pixel .result) (c .before .before .before .before .before .before .before .if1 .left) (c .before .before .before .before .before .before .if2 .left) (pixel .ensures .0)
-    (c .before .before .put .kept .0) (c .before .before .put .ensures)
+    let stored = c .before .before .put in
+    begins-first f (start .args .scratch .now) (start .args .at) (start .pre) (stored .last .0) (getD f (start .args .at .read) 0)
+    (c .before .before .before .before .before .before .if1 .left) (c .before .before .before .before .before .if2 .left) refl (stored .kept .0) (stored .ensures)
 
 pub open-first-spec : {M : Type 1} → statement M
 open-first-spec =
@@ -49,8 +46,7 @@ open-first-spec =
     returns
     returns-2
     cast-put
-    shared-slice-read-wide
-    wide-requires
+    shared-slice-read-put
     put-requires
     add-t6
     same-length

@@ -1,4 +1,4 @@
--- Four stores side by side are a run, and leave those before it.
+-- Three stores side by side are a run, and leave those before it.
 use native.Mathlib.Omega.{arith}
 use lib.ListN.{length-set}
 use Rattle.stretch.proofs.Stack.{stack-put}
@@ -24,23 +24,11 @@ add-scratch c = search needs
 slice-write-scratch-2 : tie.Need-slice-write-scratch-2
 slice-write-scratch-2 c = simp length-set (omega arith)
 
-cast-scratch-3 : tie.Need-cast-scratch-3
-cast-scratch-3 c = search needs
-
 add-scratch-2 : tie.Need-add-scratch-2
 add-scratch-2 c = search needs
 
 slice-write-scratch-3 : tie.Need-slice-write-scratch-3
 slice-write-scratch-3 c = simp length-set (omega arith)
-
-cast-scratch-4 : tie.Need-cast-scratch-4
-cast-scratch-4 c = search needs
-
-add-scratch-3 : tie.Need-add-scratch-3
-add-scratch-3 c = search needs
-
-slice-write-scratch-4 : tie.Need-slice-write-scratch-4
-slice-write-scratch-4 c = simp length-set (omega arith)
 
 same-length : tie.Need-same-length
 same-length c = search needs
@@ -58,11 +46,7 @@ put-spec =
     cast-scratch-2
     add-scratch
     slice-write-scratch-2
-    cast-scratch-3
     add-scratch-2
     slice-write-scratch-3
-    cast-scratch-4
-    add-scratch-3
-    slice-write-scratch-4
     same-length
     returns)
