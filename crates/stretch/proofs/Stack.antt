@@ -1,7 +1,7 @@
 -- The open runs in the scratch: what a store does to them.
 --   stack-put     the run that is stored as number i is on top of the i before it
 --   stack-top     the run on top
---   stack-some    a level above 0 is that of some run
+--   stack-below   the runs below it
 -- Assumes nothing.
 use mathlib.Core.Path.{_≡_, refl}
 use mathlib.Core.List.{List, _∷_}
@@ -9,7 +9,7 @@ use Prim.Native.Nat.{ℕ, zero, suc, _+_, _-_, _*_, _/_, _%_, _≤_, _<_}
 use native.Mathlib.Omega.{arith}
 use lib.ListN.{length, getD, set, length-set}
 use lib.Seq.{getD-set-same, getD-set-other}
-use Rattle.stretch.specs.Reading.{topLevel}
+use Rattle.stretch.specs.Reading.{Run}
 use Rattle.stretch.specs.Generator.{runAt, stackOf}
 
 -- a store behind the runs leaves them
@@ -70,7 +70,6 @@ stack-top m (suc d) h =
     let e : suc d - 1 ≡ d = omega arith in
     rw e
 
-pub stack-some : (m : List ℕ) (d : ℕ) → 0 < topLevel (stackOf m d) → 0 < d
+pub stack-below : (m : List ℕ) (d : ℕ) (r : Run) (rs : List Run) → stackOf m (suc d) ≡ r ∷ rs → stackOf m d ≡ rs
 unfolding stackOf
-stack-some m zero h = h
-stack-some m (suc d) h = omega arith
+stack-below m d r rs e = cc

@@ -3,13 +3,13 @@
 --   ready-test, test-ready                  the test of a place, and its facts
 --   ready-beginning                         a reading can begin
 --   begins-as, begins-end, begins-first     a run is open already, or the line is at its end, or the pixel opens one
---   Climbing                                where a climb stands; climbing-start, -equal, -more, -stops, -end
+--   Climbing                                where a climb stands; climbing-start, -more, -stops, -end
 --   falls-first, falls-low, falls-pop       the topmost run falls
 --   finds-end, finds-fall                   the stretch that the line's end, or a pixel, ends
 --   follows-none, follows-lost, follows-found    the ways out of a step
 -- Assumes nothing.
 use mathlib.Core.Path.{_≡_, refl, sym, ap, _∙_}
-use mathlib.Core.Bool.{true, false, _&&_, true≢false}
+use mathlib.Core.Bool.{Bool, true, false, cond, _&&_, true≢false}
 use mathlib.Core.List.{List, [], _∷_}
 use Prim.Native.Nat.{ℕ, zero, suc, _+_, _-_, _*_, _≤_, _<_, max}
 use native.Mathlib.Nat.{le-refl}
@@ -17,7 +17,7 @@ use native.Mathlib.Omega.{arith}
 use lib.Dec.{ltb, leb}
 use lib.ListN.{length, getD, drop, drop-of-length-le}
 use lib.Seq.{drop-cons}
-use borrow.Author.Tests.{leb-true, le-leb, lt-ltb}
+use borrow.Author.Tests.{leb-true, ltb-true, ltb-false, le-leb, lt-ltb}
 use Rattle.lists.proofs.Cases.{both, both-left, both-right}
 use Rattle.answer.specs.Limits.{longest}
 use Rattle.stretch.specs.declared.Stretch.{Stretch}
@@ -28,7 +28,7 @@ use Rattle.stretch.specs.Reading.{Run, topLevel, opened, ending, todo}
 use Rattle.stretch.specs.Generator.{pairAt, runAt, stackOf, toCome, beginning, isReady, noStep, Follows}
 use Rattle.stretch.specs.Steps.{Ready, Begins, Closes, Climbs, fallen, Falls, Finds}
 use Rattle.stretch.proofs.Model.{todo-stretches}
-use Rattle.stretch.proofs.Stack.{stack-top, stack-some}
+use Rattle.stretch.proofs.Stack.{stack-top, stack-below}
 use Rattle.stretch.proofs.Turn.{opened-more, opened-same, fallen-low, fallen-pop, turn-grow, turn-fall}
 
 pub to-come-beginning : (f m : List ℕ) → toCome f m beginning ≡ stretches f
@@ -118,60 +118,89 @@ module _ (f o : List ℕ) (p : Place) (m : List ℕ) (read depth top : ℕ) (g :
         let s : read + 1 ≡ suc read = omega arith in
         rw (s, drop-cons f read 0 h) (turn-grow read (getD f read 0) (drop (suc read) f) (stackOf m depth) l)
 
-    pub climbing-equal : getD f read 0 ≡ top → Climbing f o p m (read + 1) depth top
-    climbing-equal e =
-        let t = stack-top m depth (g .some) in
-        let l : getD f read 0 ≤ runAt m (depth - 1) .level = omega (arith, g .top, ap topLevel t) in
-        let k : opened read (getD f read 0) (stackOf m depth) ≡ stackOf m depth =
-        rw t (opened-same read (getD f read 0) (runAt m (depth - 1)) (stackOf m (depth - 1)) l) in
-        record {
-          ready = record { pixels = g .ready .pixels; room = g .ready .room; read = omega arith; depth = omega (arith, g .ready .depth) };
-          some = g .some;
-          top = g .top;
-          same = g .same ∙ turn (omega (arith, g .top)) ∙ rw k;
-          kept = g .kept;
-        }
+    -- the run that the pixel would open is stored above the others, and counted where it is brighter
+    pub climbing-more : top ≤ getD f read 0 → (m′ : List ℕ) (d : ℕ) → length m′ ≡ length m
+        → stackOf m′ (suc depth) ≡ record { start = read; level = getD f read 0 } ∷ stackOf m depth → d ≡ cond (ltb top (getD f read 0)) (depth + 1) depth
+        → Climbing f o p m′ (read + 1) d (getD f read 0)
+    climbing-more l m′ d same e e-d = go (ltb top (getD f read 0)) refl
+      where
+        one : depth + 1 ≡ suc depth
+        one = omega arith
 
-    pub climbing-more : (m′ : List ℕ) (v : ℕ) → v ≡ getD f read 0 → top < v → length m′ ≡ length m
-        → stackOf m′ (suc depth) ≡ record { start = read; level = v } ∷ stackOf m depth → Climbing f o p m′ (read + 1) (depth + 1) v
-    climbing-more m′ v p-v l same e =
-        let s : depth + 1 ≡ suc depth = omega arith in
-        let k : opened read (getD f read 0) (stackOf m depth) ≡ record { start = read; level = v } ∷ stackOf m depth =
-        rw (← p-v) (opened-more read v (stackOf m depth) (omega (arith, g .top))) in
-        record {
-          ready = record { pixels = g .ready .pixels; room = omega (arith, g .ready .room); read = omega arith; depth = omega (arith, g .ready .depth) };
-          some = omega arith;
-          top = rw (s, e);
-          same = g .same ∙ turn (omega (arith, g .top)) ∙ rw (k, s, e);
-          kept = same ∙ g .kept;
-        }
+        on : toCome f o p ≡ todo (read + 1) (drop (read + 1) f) (opened read (getD f read 0) (stackOf m depth))
+        on = g .same ∙ turn (omega (arith, g .top))
+
+        go : (t : Bool) → ltb top (getD f read 0) ≡ t → Climbing f o p m′ (read + 1) d (getD f read 0)
+        go true t =
+            let up : topLevel (stackOf m depth) < getD f read 0 = omega (arith, ltb-true top (getD f read 0) t, g .top) in
+            let k : d ≡ suc depth = e-d ∙ rw t one in
+            record {
+              ready = record { pixels = g .ready .pixels; room = omega (arith, g .ready .room); read = omega arith; depth = omega (arith, g .ready .depth) };
+              some = omega arith;
+              top = rw (k, e);
+              same = on ∙ rw (opened-more read (getD f read 0) (stackOf m depth) up, k, e);
+              kept = same ∙ g .kept;
+            }
+        go false t =
+            let level : getD f read 0 ≡ top = omega (arith, ltb-false top (getD f read 0) t) in
+            let k : d ≡ depth = e-d ∙ rw t in
+            let below : stackOf m′ depth ≡ stackOf m depth = stack-below m′ depth (record { start = read; level = getD f read 0 }) (stackOf m depth) e in
+            let s = stack-top m depth (g .some) in
+            let under : getD f read 0 ≤ runAt m (depth - 1) .level = omega (arith, g .top, ap topLevel s) in
+            let stays : opened read (getD f read 0) (stackOf m depth) ≡ stackOf m depth =
+            rw s (opened-same read (getD f read 0) (runAt m (depth - 1)) (stackOf m (depth - 1)) under) in
+            record {
+              ready = record { pixels = g .ready .pixels; room = omega (arith, g .ready .room); read = omega arith; depth = omega (arith, g .ready .depth) };
+              some = omega (arith, g .some);
+              top = rw (k, below) (level ∙ g .top);
+              same = on ∙ rw (stays, k, below);
+              kept = same ∙ g .kept;
+            }
 
 -- ---- the fall
 
-module _ (m m′ : List ℕ) (d v : ℕ) (p : 0 < d) where
-  falls-put : fallen v (runAt m (d - 1) ∷ stackOf m (d - 1)) ≡ record { start = pairAt m (4 * (d - 1)); level = v } ∷ stackOf m (d - 1)
-      → stackOf m′ (suc (d - 1)) ≡ record { start = pairAt m (4 * (d - 1)); level = v } ∷ stackOf m (d - 1) → Falls m d v m′ d
-  falls-put f e =
-      let s : suc (d - 1) ≡ d = omega arith in
-      record { runs = (rw s at e) ∙ sym (ap (fallen v) (stack-top m d p) ∙ f); less = le-refl d }
+module _ (f m : List ℕ) (p : Place) (c : Closes f m p) (h : p .read < length f) where
+  abbrev v : ℕ
+  v = getD f (p .read) 0
 
-  pub falls-first : d - 1 ≡ 0
-      → stackOf m′ (suc (d - 1)) ≡ record { start = pairAt m (4 * (d - 1)); level = v } ∷ stackOf m (d - 1) → Falls m d v m′ d
+  abbrev last : ℕ
+  last = p .depth - 1
+
+  -- the run goes on at the pixel's level, so that the pixel is read
+  falls-put : (m′ : List ℕ) → length m′ ≡ length m → fallen v (runAt m last ∷ stackOf m last) ≡ record { start = pairAt m (4 * last); level = v } ∷ stackOf m last
+      → stackOf m′ (suc last) ≡ record { start = pairAt m (4 * last); level = v } ∷ stackOf m last → Falls f m p m′ (record { read = p .read + 1; depth = p .depth })
+  falls-put m′ same fell e =
+      let d : suc last ≡ p .depth = omega (arith, c .some) in
+      let s : p .read + 1 ≡ suc (p .read) = omega arith in
+      let stack : stackOf m′ (p .depth) ≡ record { start = pairAt m (4 * last); level = v } ∷ stackOf m last = rw d at e in
+      let read : todo (p .read) (v ∷ drop (suc (p .read)) f) (record { start = pairAt m (4 * last); level = v } ∷ stackOf m last)
+          ≡ todo (suc (p .read)) (drop (suc (p .read)) f) (record { start = pairAt m (4 * last); level = v } ∷ stackOf m last) =
+      turn-grow (p .read) v (drop (suc (p .read)) f) (record { start = pairAt m (4 * last); level = v } ∷ stackOf m last) (le-refl v)
+      ∙ ap (todo (suc (p .read)) (drop (suc (p .read)) f)) (opened-same (p .read) v (record { start = pairAt m (4 * last); level = v }) (stackOf m last) (le-refl v)) in
+      record {
+        ready = record { pixels = c .ready .pixels; room = omega (arith, c .ready .room); read = omega arith; depth = omega (arith, c .ready .depth) };
+        comes = rw (stack-top m (p .depth) (c .some), fell, drop-cons f (p .read) 0 h, s, stack) read;
+      }
+
+  pub falls-first : (m′ : List ℕ) → length m′ ≡ length m → last ≡ 0
+      → stackOf m′ (suc last) ≡ record { start = pairAt m (4 * last); level = v } ∷ stackOf m last → Falls f m p m′ (record { read = p .read + 1; depth = p .depth })
   unfolding stackOf
-  falls-first z e = falls-put (rw z) e
+  falls-first m′ same z e = falls-put m′ same (rw z) e
 
-  pub falls-low : topLevel (stackOf m (d - 1)) < v
-      → stackOf m′ (suc (d - 1)) ≡ record { start = pairAt m (4 * (d - 1)); level = v } ∷ stackOf m (d - 1) → Falls m d v m′ d
-  falls-low h e = falls-put (fallen-low v (runAt m (d - 1)) (stackOf m (d - 1)) h) e
+  pub falls-low : (m′ : List ℕ) → length m′ ≡ length m → topLevel (stackOf m last) < v
+      → stackOf m′ (suc last) ≡ record { start = pairAt m (4 * last); level = v } ∷ stackOf m last → Falls f m p m′ (record { read = p .read + 1; depth = p .depth })
+  falls-low m′ same l e = falls-put m′ same (fallen-low v (runAt m last) (stackOf m last) l) e
 
-pub falls-pop : (m : List ℕ) (d v : ℕ) → 0 < d → (d - 1 ≡ 0 → ⊥) → v ≤ topLevel (stackOf m (d - 1)) → Falls m d v m (d - 1)
-falls-pop m d v p z h =
-    let t = stack-top m (d - 1) (omega arith) in
-    let k : v ≤ runAt m (d - 1 - 1) .level = omega (arith, ap topLevel t) in
-    record {
-      runs = sym (ap (fallen v) (stack-top m d p) ∙ rw t (fallen-pop v (runAt m (d - 1)) (runAt m (d - 1 - 1)) (stackOf m (d - 1 - 1)) k));
-      less = omega arith;
-    }
+  pub falls-pop : (last ≡ 0 → ⊥) → v ≤ topLevel (stackOf m last) → Falls f m p m (record { read = p .read; depth = last })
+  falls-pop z l =
+      let t = stack-top m last (omega arith) in
+      let k : v ≤ runAt m (last - 1) .level = omega (arith, ap topLevel t) in
+      let fell : fallen v (runAt m last ∷ stackOf m last) ≡ stackOf m last =
+      rw t (fallen-pop v (runAt m last) (runAt m (last - 1)) (stackOf m (last - 1)) k) in
+      record {
+        ready = record { pixels = c .ready .pixels; room = c .ready .room; read = c .ready .read; depth = omega (arith, c .ready .depth) };
+        comes = rw (stack-top m (p .depth) (c .some), fell);
+      }
 
 -- ---- the stretch found
 
@@ -192,23 +221,17 @@ module _ (f m : List ℕ) (p : Place) (c : Closes f m p) (start level under : �
         found = refl;
         comes = rw (drop-of-length-le f h, top-run, e-under);
         ready = record { pixels = c .ready .pixels; room = c .ready .room; read = c .ready .read; depth = omega (arith, c .ready .depth) };
-        read = refl;
       }
 
-  pub finds-fall : (m′ : List ℕ) (v base left : ℕ) → (p .read ≡ length f → ⊥) → v ≡ getD f (p .read) 0 → base ≡ max v under → length m′ ≡ length m
-      → Falls m (p .depth) v m′ left
-      → Finds f m p m′
-      (record { found = true; stretch = record { start = start; end = p .read; level = level; base = base }; place = record { read = p .read; depth = left } })
-  finds-fall m′ v base left ne p-v e-base same g =
-      let h : p .read < length f = omega (arith, c .ready .read) in
-      let l : v < level = omega (arith, c .stops h, p-v, e-level) in
+  pub finds-fall : (m′ : List ℕ) (base : ℕ) (q : Place) → p .read < length f → base ≡ max (getD f (p .read) 0) under → Falls f m p m′ q
+      → Finds f m p m′ (record { found = true; stretch = record { start = start; end = p .read; level = level; base = base }; place = q })
+  finds-fall m′ base q h e-base g =
+      let l : getD f (p .read) 0 < level = omega (arith, c .stops h, e-level) in
+      let fall = turn-fall (p .read) (getD f (p .read) 0) (drop (suc (p .read)) f) (record { start = start; level = level }) (stackOf m (p .depth - 1)) l in
       record {
         found = refl;
-        comes =
-            rw (e-base, e-under, g .runs, top-run, drop-cons f (p .read) 0 h, ← p-v)
-            (turn-fall (p .read) v (drop (suc (p .read)) f) (record { start = start; level = level }) (stackOf m (p .depth - 1)) l);
-        ready = record { pixels = c .ready .pixels; room = omega (arith, c .ready .room); read = c .ready .read; depth = omega (arith, c .ready .depth, g .less) };
-        read = refl;
+        comes = rw (e-base, e-under, ← g .comes, top-run, drop-cons f (p .read) 0 h) fall;
+        ready = g .ready;
       }
 
 -- ---- the ways out of a step
@@ -220,7 +243,6 @@ module _ (f m : List ℕ) (p : Place) where
         found = rw e;
         comes = λ t. absurd (true≢false (sym t));
         ready = λ t. absurd (true≢false (sym t));
-        read = λ t. absurd (true≢false (sym t));
         none = λ _. (refl, refl);
         kept = refl;
       }
@@ -232,8 +254,7 @@ module _ (f m : List ℕ) (p : Place) where
           found = rw (e, z);
           comes = λ t. absurd (true≢false (sym t));
           ready = λ t. absurd (true≢false (sym t));
-          read = λ t. absurd (true≢false (sym t));
-          none = λ _. (refl, s);
+            none = λ _. (refl, s);
           kept = ap length s;
         }
 
@@ -243,7 +264,6 @@ module _ (f m : List ℕ) (p : Place) where
           found = g .found ∙ sym (rw (e, s, g .comes) (lt-ltb 0 (length (r .stretch ∷ toCome f m′ (r .place))) (omega arith)));
           comes = λ _. s ∙ g .comes;
           ready = λ _. ready-test f m′ (r .place) (g .ready);
-          read = λ _. g .read;
           none = λ t. absurd (true≢false (sym (g .found) ∙ t));
           kept = k;
         }

@@ -44,11 +44,10 @@ abbrev pub noStep : Place → Step
 noStep p = record { found = false; stretch = record { start = 0; end = 0; level = 0; base = 0 }; place = p }
 
 -- Where a reading can stand at p and some stretch is to come, the first of them is found, and the others come from the place handed back; else nothing is found and
--- nothing changes. Of the scratch after a step, and of how many runs the place handed back counts in it, only this is said: what comes from there.
+-- nothing changes. Of the scratch after a step, and of the place handed back, only this is said: what comes from there.
 pub record Follows (f m : List ℕ) (p : Place) (m′ : List ℕ) (r : Step) : Type 0 where
   pub found : r .found ≡ (isReady (length f) (length m) p && ltb 0 (length (toCome f m p)))
   pub comes : r .found ≡ true → toCome f m p ≡ r .stretch ∷ toCome f m′ (r .place)
   pub ready : r .found ≡ true → isReady (length f) (length m′) (r .place) ≡ true
-  pub read : r .found ≡ true → r .place .read ≡ r .stretch .end
   pub none : r .found ≡ false → (r ≡ noStep p) × (m′ ≡ m)
   pub kept : length m′ ≡ length m

@@ -3,7 +3,7 @@
 --   Begins, Climbs       the reading has gone on, and what is to come is the same
 --   Closes f m p         the topmost run ends at p: the pixel there is darker, or the line is at its end
 --   fallen v rs          the runs once the topmost is ended by a pixel v
---   Falls                the scratch before and after that
+--   Falls                from the runs so fallen the rest comes
 --   Finds                the topmost run is the stretch found
 --   startOf a            where the reading of a listing with the answer a starts: at a refusal at a place where none can stand
 --   finished a k         the answer of a listing that has come to its end, with k stretches
@@ -11,13 +11,13 @@ use mathlib.Core.Path.{_≡_}
 use mathlib.Core.Bool.{true, cond}
 use mathlib.Core.List.{List, [], _∷_}
 use Prim.Native.Nat.{ℕ, _*_, _≤_, _<_}
-use lib.ListN.{length, getD}
+use lib.ListN.{length, getD, drop}
 use Rattle.answer.specs.declared.Answer.{Answer}
 use Rattle.answer.specs.Limits.{longest}
 use Rattle.answer.specs.Rules.{done, by-number}
 use Rattle.stretch.specs.declared.Place.{Place}
 use Rattle.stretch.specs.declared.Step.{Step}
-use Rattle.stretch.specs.Reading.{Run, topLevel, topHolds}
+use Rattle.stretch.specs.Reading.{Run, topLevel, topHolds, todo}
 use Rattle.stretch.specs.Generator.{stackOf, toCome, beginning}
 
 pub record Ready (f m : List ℕ) (p : Place) : Type 0 where
@@ -45,15 +45,14 @@ abbrev pub fallen : ℕ → List Run → List Run
 fallen v [] = []
 fallen v (r ∷ rs) = cond (topHolds v rs) rs (record { start = r .start; level = v } ∷ rs)
 
-pub record Falls (m : List ℕ) (d v : ℕ) (m′ : List ℕ) (e : ℕ) : Type 0 where
-  pub runs : stackOf m′ e ≡ fallen v (stackOf m d)
-  pub less : e ≤ d
+pub record Falls (f m : List ℕ) (p : Place) (m′ : List ℕ) (q : Place) : Type 0 where
+  pub ready : Ready f m′ q
+  pub comes : todo (p .read) (drop (p .read) f) (fallen (getD f (p .read) 0) (stackOf m (p .depth))) ≡ toCome f m′ q
 
 pub record Finds (f m : List ℕ) (p : Place) (m′ : List ℕ) (r : Step) : Type 0 where
   pub found : r .found ≡ true
   pub comes : toCome f m p ≡ r .stretch ∷ toCome f m′ (r .place)
   pub ready : Ready f m′ (r .place)
-  pub read : r .place .read ≡ r .stretch .end
 
 abbrev pub startOf : Answer → Place
 startOf a = by-number (a .number) beginning (record { read = 0; depth = 1 })

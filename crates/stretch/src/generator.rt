@@ -9,8 +9,11 @@ use crate::runs::top_level;
 use crate::runs::wide;
 use answer::LONGEST;
 ghost use mathlib.Core.Path.{_≡_};
-ghost use Prim.Native.Nat.{_*_, _≤_, _<_};
+ghost use mathlib.Core.Bool.{cond};
+ghost use Prim.Native.Nat.{_+_, _≤_, _<_};
+ghost use lib.Dec.{ltb};
 ghost use lib.ListN.{length};
+ghost use Rattle.answer.specs.Limits.{longest};
 ghost use Rattle.stretch.specs.Generator.{beginning, isReady, noStep, Follows};
 ghost use Rattle.stretch.specs.Steps.{Ready, Begins, Climbs, Closes, Falls, Finds};
 
@@ -56,7 +59,16 @@ fn open_first(line: &[u8], scratch: &mut [u8], at: Place) -> Place
     }
 }
 
-// Reads on over the pixels that end no run: one that outshines the topmost opens another.
+// How many runs are open after a pixel v, which the topmost of `depth`, at `top`, is not brighter than.
+fn grown(depth: usize, top: u8, v: u8) -> usize
+    requires { ⌜ depth ≤ longest ⌝ }
+    ensures { λ r. ⌜ r ≡ cond (ltb top v) (depth + 1) depth ⌝ }
+{
+    if top < v { depth + 1 } else { depth }
+}
+
+// Reads on over the pixels that end no run: one that outshines the topmost opens another. Each is stored above the stack, whether it opens a run or not:
+// a store costs less than a branch that is guessed wrong.
 fn climb(line: &[u8], scratch: &mut [u8], at: Place) -> Place
     requires { ⌜ Ready (now line) (now scratch) at × (0 < at .depth) ⌝ }
     ensures { λ r. ⌜ Climbs (now (line .entry)) (now (scratch .entry)) at (now (scratch .exit)) r ⌝ }
@@ -69,35 +81,40 @@ fn climb(line: &[u8], scratch: &mut [u8], at: Place) -> Place
         if v < top {
             return Place { read, depth };
         }
-        if v == top {
-            read += 1;
-        } else {
-            put(scratch, depth, read as u16, v);
-            depth += 1;
-            top = v;
-            read += 1;
-        }
+        put(scratch, depth, read as u16, v);
+        depth = grown(depth, top, v);
+        top = v;
+        read += 1;
     }
     Place { read, depth }
 }
 
-// A pixel v that is darker than the topmost of `depth` open runs ends it; the run goes on at level v, unless the one below holds v.
-fn fall(scratch: &mut [u8], depth: usize, v: u8) -> usize
-    requires { ⌜ (0 < depth) × (4 * depth ≤ length (now scratch)) ⌝ }
-    ensures { λ r. ⌜ Falls (now (scratch .entry)) depth v (now (scratch .exit)) r ⌝ }
+// The pixel at hand, darker than the topmost run, ends it. The run goes on at the pixel's level, which is so read, unless the run below holds the pixel.
+fn fall(line: &[u8], scratch: &mut [u8], at: Place) -> Place
+    requires { ⌜ Closes (now line) (now scratch) at × (at .read < length (now line)) ⌝ }
+    ensures { λ r. ⌜ Falls (now (line .entry)) (now (scratch .entry)) at (now (scratch .exit)) r ⌝ }
 {
+    let read = at.read;
+    let depth = at.depth;
+    let v = line[read];
     let last = depth - 1;
     let start = pair_at(scratch, 4 * last);
     let under = top_level(scratch, last);
     if last == 0 {
         put(scratch, last, start, v);
-        return depth;
+        return Place {
+            read: read + 1,
+            depth,
+        };
     }
     if under < v {
         put(scratch, last, start, v);
-        return depth;
+        return Place {
+            read: read + 1,
+            depth,
+        };
     }
-    last
+    Place { read, depth: last }
 }
 
 // The topmost run ends here: the pixel at hand is darker, or the line is at its end.
@@ -124,9 +141,8 @@ fn close(line: &[u8], scratch: &mut [u8], at: Place) -> Step
             place: Place { read, depth: last },
         };
     }
-    let v = line[read];
-    let base = wide(brighter(v, under));
-    let left = fall(scratch, depth, v);
+    let base = wide(brighter(line[read], under));
+    let place = fall(line, scratch, at);
     Step {
         found: true,
         stretch: Stretch {
@@ -135,7 +151,7 @@ fn close(line: &[u8], scratch: &mut [u8], at: Place) -> Step
             level,
             base,
         },
-        place: Place { read, depth: left },
+        place,
     }
 }
 

@@ -1,9 +1,8 @@
--- A pixel at the topmost run's level changes nothing, a brighter one opens a run, a darker one stops the climb.
+-- A pixel that the topmost run is not brighter than ends no run, and a brighter one opens one; a darker one stops the climb.
 use Prim.Native.Nat.{_-_}
-use mathlib.Core.Path.{refl}
 use native.Mathlib.Omega.{arith}
-use lib.ListN.{length, getD}
-use Rattle.stretch.proofs.Steps.{Climbing, climbing-start, climbing-stops, climbing-end, climbing-equal, climbing-more}
+use lib.ListN.{length}
+use Rattle.stretch.proofs.Steps.{Climbing, climbing-start, climbing-stops, climbing-end, climbing-more}
 use borrow.Author.Needs.{needs}
 use Rattle.stretch.proofs.generator.climb.Statement.{statement}
 use Rattle.stretch.proofs.generator.climb.Tie as tie
@@ -34,6 +33,15 @@ returns c =
     let l = c .before .before .before .loop in
     climbing-stops (a .line .now) (a .scratch .now) (a .at) (l .scratch) (l .read) (l .depth) (l .top) (l .inv) (omega arith)
 
+cast-put : tie.Need-cast-put Inv-loop μ-loop
+cast-put c = search needs
+
+put-requires : tie.Need-put-requires Inv-loop μ-loop
+put-requires c κs = search needs
+
+grown-requires : tie.Need-grown-requires Inv-loop μ-loop
+grown-requires c κs = search needs
+
 add-read : tie.Need-add-read Inv-loop μ-loop
 add-read c = search needs
 
@@ -42,32 +50,11 @@ loop-less c = search needs
 
 loop-again : tie.Need-loop-again Inv-loop μ-loop
 loop-again c =
-    let a = c .before .before .before .before .before .before .before .before .before .args in
-    let l = c .before .before .before .before .loop in
-    climbing-equal (a .line .now) (a .scratch .now) (a .at) (l .scratch) (l .read) (l .depth) (l .top) (l .inv) (omega arith) (omega arith)
-
-cast-put : tie.Need-cast-put Inv-loop μ-loop
-cast-put c = search needs
-
-put-requires : tie.Need-put-requires Inv-loop μ-loop
-put-requires c κs = search needs
-
-add-depth : tie.Need-add-depth Inv-loop μ-loop
-add-depth c = search needs
-
-add-read-2 : tie.Need-add-read-2 Inv-loop μ-loop
-add-read-2 c = search needs
-
-loop-less-2 : tie.Need-loop-less-2 Inv-loop μ-loop
-loop-less-2 c = search needs
-
-loop-again-2 : tie.Need-loop-again-2 Inv-loop μ-loop
-loop-again-2 c =
     let a = c .before .before .before .before .before .before .before .before .before .before .before .before .before .args in
     let l = c .before .before .before .before .before .before .before .before .loop in
-    let stored = c .before .before .put in
-    climbing-more (a .line .now) (a .scratch .now) (a .at) (l .scratch) (l .read) (l .depth) (l .top) (l .inv) (omega arith)
-    (stored .last .0) (getD (a .line .now) (l .read) 0) refl (omega arith) (stored .kept .0) (stored .ensures)
+    let stored = c .before .before .before .put in
+    climbing-more (a .line .now) (a .scratch .now) (a .at) (l .scratch) (l .read) (l .depth) (l .top) (l .inv) (omega arith) (omega arith)
+    (stored .last .0) (c .grown .result) (stored .kept .0) (stored .ensures) (c .grown .ensures)
 
 same-length-2 : tie.Need-same-length-2 Inv-loop μ-loop
 same-length-2 c = c .before .loop .inv .kept
@@ -89,14 +76,11 @@ climb-spec =
     shared-slice-read-v
     same-length
     returns
+    cast-put
+    put-requires
+    grown-requires
     add-read
     loop-less
     loop-again
-    cast-put
-    put-requires
-    add-depth
-    add-read-2
-    loop-less-2
-    loop-again-2
     same-length-2
     returns-2)

@@ -1,7 +1,6 @@
 -- The topmost run is ended by the line's end, or by the pixel at hand.
-use mathlib.Core.Path.{refl, _∙_}
+use mathlib.Core.Path.{_∙_}
 use native.Mathlib.Omega.{arith}
-use lib.ListN.{getD}
 use Rattle.stretch.proofs.Steps.{finds-end, finds-fall}
 use borrow.Author.Needs.{needs}
 use Rattle.stretch.proofs.generator.close.Statement.{statement}
@@ -43,8 +42,8 @@ returns c =
     finds-end (start .args .line .now) (start .args .scratch .now) (start .args .at) (start .pre) (from .result) (level .result) (base .result)
     (from .ensures) (level .ensures .0 ∙ c .before .before .before .before .before .top-level .ensures) (base .ensures .0 ∙ c .before .before .top-level2 .ensures) (omega arith)
 
-shared-slice-read-v : tie.Need-shared-slice-read-v
-shared-slice-read-v c = search needs
+shared-slice-read-brighter : tie.Need-shared-slice-read-brighter
+shared-slice-read-brighter c = search needs
 
 brighter-requires : tie.Need-brighter-requires
 brighter-requires c κs = search needs
@@ -53,7 +52,7 @@ wide-requires-3 : tie.Need-wide-requires-3
 wide-requires-3 c κs = search needs
 
 fall-requires : tie.Need-fall-requires
-fall-requires c κs = search needs
+fall-requires c κs = (c .before .before .before .before .before .before .before .before .before .before .before .before .before .before .pre, omega arith)
 
 same-length-2 : tie.Need-same-length-2
 same-length-2 c = search needs
@@ -61,16 +60,14 @@ same-length-2 c = search needs
 returns-2 : tie.Need-returns-2
 returns-2 c =
     let start = c .before .before .before .before .before .before .before .before .before .before .before .before .before .before .before .before .before in
-    let f = start .args .line .now in
     let from = c .before .before .before .before .before .before .before .before .before .before .before .before .before .pair-at in
     let level = c .before .before .before .before .before .before .before .before .before .before .wide in
     let under = c .before .before .before .before .before .before .before .before .top-level2 in
     let base = c .before .before .before .before .wide3 in
     let fell = c .before .before .fall in
-    finds-fall f (start .args .scratch .now) (start .args .at) (start .pre) (from .result) (level .result) (under .result)
+    finds-fall (start .args .line .now) (start .args .scratch .now) (start .args .at) (start .pre) (from .result) (level .result) (under .result)
     (from .ensures) (level .ensures .0 ∙ c .before .before .before .before .before .before .before .before .before .before .before .top-level .ensures) (under .ensures)
-    (fell .last .0) (getD f (start .args .at .read) 0) (base .result) (fell .result) (λ e. omega arith) refl
-    (base .ensures .0 ∙ c .before .before .before .before .before .brighter .ensures) (fell .kept .0) (fell .ensures)
+    (fell .last .1 .0) (base .result) (fell .result) (omega arith) (base .ensures .0 ∙ c .before .before .before .before .before .brighter .ensures) (fell .ensures)
 
 pub close-spec : {M : Type 1} → statement M
 close-spec =
@@ -86,7 +83,7 @@ close-spec =
     wide-requires-2
     same-length
     returns
-    shared-slice-read-v
+    shared-slice-read-brighter
     brighter-requires
     wide-requires-3
     fall-requires
