@@ -174,7 +174,7 @@ module _ (f m : List ℕ) (p : Place) (c : Closes f m p) (h : p .read < length f
       let s : p .read + 1 ≡ suc (p .read) = omega arith in
       let stack : stackOf m′ (p .depth) ≡ record { start = pairAt m (4 * last); level = v } ∷ stackOf m last = rw d at e in
       let read : todo (p .read) (v ∷ drop (suc (p .read)) f) (record { start = pairAt m (4 * last); level = v } ∷ stackOf m last)
-          ≡ todo (suc (p .read)) (drop (suc (p .read)) f) (record { start = pairAt m (4 * last); level = v } ∷ stackOf m last) =
+      ≡ todo (suc (p .read)) (drop (suc (p .read)) f) (record { start = pairAt m (4 * last); level = v } ∷ stackOf m last) =
       turn-grow (p .read) v (drop (suc (p .read)) f) (record { start = pairAt m (4 * last); level = v } ∷ stackOf m last) (le-refl v)
       ∙ ap (todo (suc (p .read)) (drop (suc (p .read)) f)) (opened-same (p .read) v (record { start = pairAt m (4 * last); level = v }) (stackOf m last) (le-refl v)) in
       record {
@@ -254,7 +254,7 @@ module _ (f m : List ℕ) (p : Place) where
           found = rw (e, z);
           comes = λ t. absurd (true≢false (sym t));
           ready = λ t. absurd (true≢false (sym t));
-            none = λ _. (refl, s);
+          none = λ _. (refl, s);
           kept = ap length s;
         }
 
