@@ -1,15 +1,18 @@
 -- What an answer says of its call's rules.
 --   kept           where the answer's number is 0, no rule is broken
 --   after-done, after-refused    what a lent buffer holds, by the answer's number
+--   front-done, front-none       a done call has put its values, or none, at the front of a destination
 --   outside-not    what is not outside is within
 -- Assumes nothing.
-use mathlib.Core.Path.{_≡_, refl, sym, ap, _∙_}
+use mathlib.Core.Path.{_≡_, refl, sym, _∙_}
 use mathlib.Core.Bool.{Bool, true, false, cond, _&&_, _||_, false≢true}
-use mathlib.Core.List.{List, [], _∷_}
+use mathlib.Core.List.{List, [], _∷_, _++_}
 use Prim.Native.Nat.{ℕ, zero, suc, _≤_, _<_}
 use native.Mathlib.Omega.{arith}
 use lib.Dec.{ltb}
+use lib.ListN.{length, drop}
 use borrow.Author.Tests.{ltb-true, ltb-false}
+use Rattle.lists.specs.Stores.{front}
 use Rattle.lists.proofs.Cases.{both-left, both-right, neither-left, neither-right}
 use Rattle.answer.specs.declared.Answer.{Answer}
 use Rattle.answer.specs.Rules.{Rule, answer, refusal, by-number, after, outside}
@@ -43,6 +46,17 @@ module _ {A : Type 0} (a : Answer) (new old : A) where
       go : (n : ℕ) → (n ≡ 0 → ⊥) → by-number n new old ≡ old
       go zero z = absurd (z refl)
       go (suc n) z = refl
+
+module _ {A : Type 0} (a : Answer) (vs dst : List A) (z : a .number ≡ 0) where
+  pub front-done : (n : ℕ) {e : List A} → length vs ≡ n → e ≡ vs → e ++ drop n dst ≡ after a (front vs dst) dst
+  front-done n len same = rw (same, ← len) (sym (after-done a (front vs dst) dst z))
+
+  pub front-none : length vs ≡ 0 → dst ≡ after a (front vs dst) dst
+  front-none none = sym (after-done a (front vs dst) dst z ∙ go vs none)
+    where
+      go : (vs : List A) → length vs ≡ 0 → front vs dst ≡ dst
+      go [] e = refl
+      go (v ∷ vs) e = absurd (omega arith)
 
 pub outside-not : (lo hi n : ℕ) → outside lo hi n ≡ false → (lo ≤ n) × (n ≤ hi)
 outside-not lo hi n e = (ltb-false n lo (neither-left (ltb n lo) (ltb hi n) e), ltb-false hi n (neither-right (ltb n lo) (ltb hi n) e))

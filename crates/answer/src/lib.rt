@@ -13,6 +13,7 @@ pub const WIDEST: usize = 65535;
 pub const STEEPEST: i64 = 255;
 
 // The number of the rule that refused the call, 0 where it is done; and the figure that goes with it.
+#[repr(C)]
 pub struct Answer {
     pub number: u32,
     pub figure: u64,

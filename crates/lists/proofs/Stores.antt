@@ -3,7 +3,7 @@
 --   filled-more, filled-before      one store more, behind the others or before them
 --   filled-join, filled-join-before one stretch behind another, or before it
 --   filled-end, filled-start, filled-as    the same stretch, its ends and values known by equations
---   filled-whole, filled-front      what a filled list is
+--   filled-whole, filled-copy, filled-front    what a filled list is
 --   front-length, front-more        values at the front: the length stays, and one value more is one store
 -- Assumes nothing.
 use mathlib.Core.Path.{_≡_, refl, sym, _∙_, subst}
@@ -93,6 +93,10 @@ filled-join-before {d} {a} {b} {lo} {mid} {hi} {F} f g low high =
 -- filled from the first place to the last
 pub filled-whole : {d a : List ℕ} {hi : ℕ} {F : ℕ → ℕ} → Filled d a 0 hi F → hi ≡ length d → a ≡ table F hi
 filled-whole {d} {a} {hi} {F} f e = table-by 0 a F hi (f .same ∙ sym e) (λ k l. f .within k zero-le l)
+
+-- filled with the values of another list of its length
+pub filled-copy : {d a : List ℕ} {hi : ℕ} (f : List ℕ) → Filled d a 0 hi (λ (k : ℕ). getD f k 0) → hi ≡ length f → length d ≡ length f → a ≡ f
+filled-copy {d} {a} {hi} f p e n = ext-getD 0 a f (p .same ∙ n) (λ k l. p .within k zero-le (omega (arith, p .same)))
 
 -- filled with the values vs at the front
 pub filled-front : {d a : List ℕ} {hi : ℕ} (vs : List ℕ) → Filled d a 0 hi (λ (k : ℕ). getD vs k 0) → length vs ≡ hi → hi ≤ length d → a ≡ front vs d

@@ -1,0 +1,34 @@
+-- One line alone: the values with zeros behind them grow where they stand.
+use mathlib.Core.Path.{refl, _∙_}
+use native.Mathlib.Omega.{arith}
+use Rattle.line.proofs.Passes.{dilated-passes}
+use Rattle.line.proofs.Strides.{dilates-alone}
+use borrow.Author.Needs.{needs}
+use Rattle.line.proofs.dilation.dilated_into.Statement.{statement}
+use Rattle.line.proofs.dilation.dilated_into.Tie as tie
+
+copy-requires : tie.Need-copy-requires
+copy-requires c κs = search needs
+
+clear-requires : tie.Need-clear-requires
+clear-requires c κs = search needs
+
+dilate-lanes-requires : tie.Need-dilate-lanes-requires
+dilate-lanes-requires c κs = search needs
+
+same-length : tie.Need-same-length
+same-length c = search needs
+
+returns : tie.Need-returns
+returns c =
+    let src = c .before .before .before .before .before .before .before .before .before .before .before .before .before .before .args .src .now in
+    let length = c .before .before .before .before .before .before .before .before .before .before .before .before .before .before .args .length in
+    let copy = c .before .before .before .before .before .before .before .before .before .before .copy .ensures in
+    let clear = c .before .before .before .before .before .before .clear .ensures in
+    let grown = c .before .before .dilate-lanes in
+    let dilates = dilates-alone (grown .ensures) (omega (arith, clear .same)) (omega arith) in
+    dilated-passes src copy clear dilates refl refl (omega arith) (copy .same ∙ c .before .before .before .before .before .before .before .before .before .before .before .before .before .before .pre .2) (grown .kept .0 ∙ clear .same)
+
+pub dilated-into-spec : {M : Type 1} → statement M
+dilated-into-spec =
+    tie.close (tie.spec copy-requires clear-requires dilate-lanes-requires same-length returns)

@@ -1,0 +1,83 @@
+-- The buffer holds the lines dilated by windows of w pixels.
+use mathlib.Core.Path.{_≡_}
+use Prim.Native.Nat.{_+_, _-_, _*_, _≤_}
+use native.Mathlib.Nat.{mul-le-mul-left}
+use native.Mathlib.Omega.{arith}
+use lib.ListN
+use Rattle.line.specs.Passes.{DilatesLanes}
+use Rattle.line.proofs.Strides.{lanes-dilate-one, lanes-dilate-more, lanes-dilate-end}
+use borrow.Author.Needs.{needs}
+use Rattle.line.proofs.lanes.dilate_lanes.Statement.{statement}
+use Rattle.line.proofs.lanes.dilate_lanes.Tie as tie
+
+abbrev Inv-loop : tie.InvT-loop
+Inv-loop buf₀ lanes pixels length w₀ buf w = (lib.ListN.length buf ≡ lib.ListN.length buf₀) × (1 ≤ w) × (w ≤ length) × DilatesLanes lanes pixels w buf₀ buf
+
+abbrev μ-loop : tie.MeasureT-loop
+μ-loop buf₀ lanes pixels length w₀ buf w = length - w
+
+loop-holds : tie.Need-loop-holds Inv-loop μ-loop
+loop-holds c = (search needs, search needs, search needs, lanes-dilate-one _ _ _)
+
+growth-requires : tie.Need-growth-requires Inv-loop μ-loop
+growth-requires c κs = search needs
+
+add-w : tie.Need-add-w Inv-loop μ-loop
+add-w c = search needs
+
+mul-widen : tie.Need-mul-widen Inv-loop μ-loop
+mul-widen c =
+    let lanes = c .before .before .before .before .before .args .lanes in
+    let pixels = c .before .before .before .before .before .args .pixels in
+    let w = c .before .before .before .loop .w in
+    let s = c .before .growth .result in
+    let fit : lanes * s ≤ lanes * pixels = mul-le-mul-left lanes (omega arith) in
+    omega arith
+
+widen-requires : tie.Need-widen-requires Inv-loop μ-loop
+widen-requires c κs =
+    let lanes = c .before .before .before .before .before .args .lanes in
+    let pixels = c .before .before .before .before .before .args .pixels in
+    let w = c .before .before .before .loop .w in
+    let s = c .before .growth .result in
+    let fit : lanes * s ≤ lanes * pixels = mul-le-mul-left lanes (omega arith) in
+    omega (arith, c .before .before .before .loop .inv .0, c .before .before .before .before .before .pre .2)
+
+loop-less : tie.Need-loop-less Inv-loop μ-loop
+loop-less c = search needs
+
+loop-again : tie.Need-loop-again Inv-loop μ-loop
+loop-again c =
+    let lanes = c .before .before .before .before .before .before .before .before .args .lanes in
+    let pixels = c .before .before .before .before .before .before .before .before .args .pixels in
+    let pre = c .before .before .before .before .before .before .before .before .pre in
+    let at = c .before .before .before .before .before .before .loop in
+    let grown = c .before .before .before .before .growth in
+    let pass = c .before .before .widen in (
+      omega (arith, pass .kept .0, at .inv .0),
+      omega (arith, at .inv),
+      omega (arith, grown .ensures, at .inv),
+      lanes-dilate-more lanes pixels (at .w) (grown .result) (at .inv .3) (pass .ensures) (omega (arith, at .inv .0, pre .2)) (omega (arith, grown .ensures)) (omega (arith, grown .ensures, at .inv, pre)),
+    )
+
+same-length : tie.Need-same-length Inv-loop μ-loop
+same-length c = search needs
+
+returns : tie.Need-returns Inv-loop μ-loop
+returns c = lanes-dilate-end (c .before .loop .inv .3) (omega arith)
+
+pub dilate-lanes-spec : {M : Type 1} → statement M
+dilate-lanes-spec =
+    tie.close
+    (tie.spec
+    Inv-loop
+    μ-loop
+    loop-holds
+    growth-requires
+    add-w
+    mul-widen
+    widen-requires
+    loop-less
+    loop-again
+    same-length
+    returns)

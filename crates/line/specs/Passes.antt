@@ -1,0 +1,32 @@
+-- What the private passes keep to. A pass goes over a whole buffer; c lines of n pixels stand in it interleaved (Lanes).
+--   narrowed b d k        number k of b, or the one d behind it: the lesser
+--   widened b d k         number k of b, or the one d before it: the greater
+--   Erodes, Dilates       a list begins with the values of an erosion, or of a dilation
+--   ErodesLanes, DilatesLanes    the same of every line of a buffer
+-- Laws: line/proofs/Passes, Blocks, Strides.
+use mathlib.Core.Path.{_≡_}
+use mathlib.Core.List.{List}
+use Prim.Native.Nat.{ℕ, _+_, _-_, _≤_, _<_, min, max}
+use lib.ListN.{length, getD}
+use Rattle.line.specs.Windows.{darkest, dilatedAt}
+use Rattle.line.specs.Lanes.{lane}
+
+abbrev pub narrowed : List ℕ → ℕ → ℕ → ℕ
+narrowed b d k = min (getD b k 0) (getD b (k + d) 0)
+
+abbrev pub widened : List ℕ → ℕ → ℕ → ℕ
+widened b d k = max (getD b k 0) (getD b (k - d) 0)
+
+-- a begins with the values of the erosion of f by windows of w pixels
+pub record Erodes (f : List ℕ) (w : ℕ) (a : List ℕ) : Type 0 where
+  pub at : (i : ℕ) → i + w ≤ length f → getD a i 0 ≡ darkest f i w
+
+-- a begins with the first values of the dilation of e by windows of w values, as many as e has
+pub record Dilates (e : List ℕ) (w : ℕ) (a : List ℕ) : Type 0 where
+  pub at : (x : ℕ) → x < length e → getD a x 0 ≡ dilatedAt e w x
+
+pub record ErodesLanes (c n w : ℕ) (before after : List ℕ) : Type 0 where
+  pub at : (j : ℕ) → j < c → Erodes (lane c n j before) w (lane c n j after)
+
+pub record DilatesLanes (c n w : ℕ) (before after : List ℕ) : Type 0 where
+  pub at : (j : ℕ) → j < c → Dilates (lane c n j before) w (lane c n j after)

@@ -1,0 +1,68 @@
+// One pass over a buffer each: a flat loop, in place. `narrow` and `widen` are where the time goes: 64 bytes a turn, then what is left one by one.
+use crate::block::brighter;
+use crate::block::brighter_at;
+use crate::block::darker;
+use crate::block::darker_at;
+use crate::block::put_at;
+ghost use Prim.Native.Nat.{ℕ, _+_, _≤_};
+ghost use lib.ListN.{length, getD};
+ghost use Rattle.lists.specs.Stores.{Filled};
+ghost use Rattle.line.specs.Passes.{narrowed, widened};
+
+// Each of the first m bytes becomes the darker of itself and the byte d behind it; upward, so that what it reads is as it was.
+pub(crate) fn narrow(buf: &mut [u8], m: usize, d: usize)
+    requires { ⌜ m + d ≤ length (now buf) ⌝ }
+    ensures { λ _. ⌜ Filled (now (buf .entry)) (now (buf .exit)) 0 m (narrowed (now (buf .entry)) d) ⌝ }
+{
+    let mut i = 0;
+    while 64 <= m - i {
+        let t = darker_at(buf, i, d);
+        put_at(buf, i, t);
+        i += 64;
+    }
+    while i < m {
+        buf[i] = darker(buf[i], buf[i + d]);
+        i += 1;
+    }
+}
+
+// Each byte from d on becomes the brighter of itself and the byte d before it; downward, so that what it reads is as it was.
+pub(crate) fn widen(buf: &mut [u8], d: usize)
+    requires { ⌜ d ≤ length (now buf) ⌝ }
+    ensures { λ _. ⌜ Filled (now (buf .entry)) (now (buf .exit)) d (length (now (buf .entry))) (widened (now (buf .entry)) d) ⌝ }
+{
+    let mut m = buf.len() - d;
+    while 64 <= m {
+        m -= 64;
+        let t = brighter_at(buf, m, d);
+        put_at(buf, m + d, t);
+    }
+    while 0 < m {
+        m -= 1;
+        buf[m + d] = brighter(buf[m + d], buf[m]);
+    }
+}
+
+// Each byte from `from` on becomes 0.
+pub(crate) fn clear(buf: &mut [u8], from: usize)
+    requires { ⌜ from ≤ length (now buf) ⌝ }
+    ensures { λ _. ⌜ Filled (now (buf .entry)) (now (buf .exit)) from (length (now (buf .entry))) (λ (k : ℕ). 0) ⌝ }
+{
+    let mut i = from;
+    while i < buf.len() {
+        buf[i] = 0;
+        i += 1;
+    }
+}
+
+// The first m bytes of src come to the front of dst.
+pub(crate) fn copy(src: &[u8], m: usize, dst: &mut [u8])
+    requires { ⌜ (m ≤ length (now src)) × (m ≤ length (now dst)) ⌝ }
+    ensures { λ _. ⌜ Filled (now (dst .entry)) (now (dst .exit)) 0 m (λ (k : ℕ). getD (now (src .entry)) k 0) ⌝ }
+{
+    let mut i = 0;
+    while i < m {
+        dst[i] = src[i];
+        i += 1;
+    }
+}
