@@ -3,6 +3,7 @@
 --   least-cons, least-snoc          the least of a list with one number more, at its front or at its end
 --   le-those, those-le              the greatest of those values that a test picks, likewise
 --   total-append, total-table       the total of two lists, and of a table one value longer
+--   total-add, total-zero           the total of a table of sums, and of zeros
 -- Assumes nothing.
 use mathlib.Core.Path.{_≡_, refl, sym, ap, _∙_}
 use mathlib.Core.Bool.{Bool, true, false, false≢true}
@@ -87,3 +88,13 @@ total-append (x ∷ s) t = omega (arith, total-append s t)
 pub total-table : (g : ℕ → ℕ) (n : ℕ) → total (table g (suc n)) ≡ total (table g n) + g n
 unfolding each total
 total-table g n = total-append (table g n) (g n ∷ []) ∙ omega arith
+
+pub total-add : (g h : ℕ → ℕ) (n : ℕ) → total (table (λ (i : ℕ). g i + h i) n) ≡ total (table g n) + total (table h n)
+unfolding each total
+total-add g h zero = refl
+total-add g h (suc n) = omega (arith, total-table (λ (i : ℕ). g i + h i) n, total-table g n, total-table h n, total-add g h n)
+
+pub total-zero : (n : ℕ) → total (table (λ (i : ℕ). 0) n) ≡ 0
+unfolding each total
+total-zero zero = refl
+total-zero (suc n) = omega (arith, total-table (λ (i : ℕ). 0) n, total-zero n)
