@@ -55,9 +55,10 @@ module _ (L x : ℕ) where
   unfolding reaching All
   le-reaching m [] h = tt
   le-reaching m (s ∷ ss) h =
-      let k = le-keep (leb L (long s) && over x s) (s .level) m (reaching L x ss) h in
-      ((λ p q r. k .0 (both (leb L (long s)) (over x s) (le-leb L (long s) p) (both (leb (s .start) x) (ltb x (s .end)) (le-leb (s .start) x q) (lt-ltb x (s .end) r)))),
-      le-reaching m ss (k .1))
+      let k = le-keep (leb L (long s) && over x s) (s .level) m (reaching L x ss) h in (
+        (λ p q r. k .0 (both (leb L (long s)) (over x s) (le-leb L (long s) p) (both (leb (s .start) x) (ltb x (s .end)) (le-leb (s .start) x q) (lt-ltb x (s .end) r)))),
+        le-reaching m ss (k .1),
+      )
 
 -- ---- windows and stretches
 
@@ -85,7 +86,7 @@ module _ (f : List ℕ) (L x : ℕ) (some : 1 ≤ L) where
       go : Around f i (i + L) (darkest f i L) → darkest f i L ≤ greatest (reaching L x (stretches f))
       go s =
           let reach = all-elim (Low L x (greatest (reaching L x (stretches f)))) f every (s .from) (s .to) (around-bright f i (i + L) (darkest f i L) (omega arith) s)
-              (omega (arith, s .before, s .after)) (omega (arith, s .before)) (omega (arith, s .after)) in
+          (omega (arith, s .before, s .after)) (omega (arith, s .before)) (omega (arith, s .after)) in
           omega (arith, s .high, reach)
 
   pub opened-at-stretches : openedAt f L x ≡ greatest (reaching L x (stretches f))

@@ -1,6 +1,7 @@
 -- What the loop of the listing keeps to: the stretches laid into the table and those to come are the list, or nothing where the call is refused.
 --   coming f m p          what is to come at p; nothing where no reading can stand there
 --   listed f t o          the rules of a listing of f into the table t with the scratch o
+--   coming-first          the stretch that a step finds is the first of them
 --   Laying                where the listing stands; laying-start, laying-step, laying-end
 -- Assumes nothing.
 use mathlib.Core.Path.{_≡_, refl, sym, ap, _∙_}
@@ -82,30 +83,31 @@ some-not-none ds s ss e = omega (arith, ap length e, length-append ds (s ∷ ss)
 refused-none : (a : Answer) (l : List Stretch) → (a .number ≡ 0 → ⊥) → by-number (a .number) l [] ≡ []
 refused-none a l ne = after-refused a l [] ne
 
+-- the stretch found is the first of those to come
+pub coming-first : (f m : List ℕ) (p : Place) (m′ : List ℕ) (r : Step) → Follows f m p m′ r → r .found ≡ true → coming f m p ≡ r .stretch ∷ coming f m′ (r .place)
+coming-first f m p m′ r h y =
+    let e : (isReady (length f) (length m) p && ltb 0 (length (toCome f m p))) ≡ true = sym (h .found) ∙ y in
+    rw (both-left (isReady (length f) (length m) p) (ltb 0 (length (toCome f m p))) e, h .ready y) (h .comes y)
+
 module _ (f : List ℕ) (t : List Stretch) (o : List ℕ) (a : Answer) (ds : List Stretch) (m : List ℕ) (p : Place) (g : Laying f t o a ds m p)
     (m′ : List ℕ) (r : Step) (h : Follows f m p m′ r) where
   module _ (y : r .found ≡ true) where
-    found-both : (isReady (length f) (length m) p && ltb 0 (length (toCome f m p))) ≡ true
-    found-both = sym (h .found) ∙ y
-
-    -- the stretch found is the first of those to come
-    pub coming-first : coming f m p ≡ r .stretch ∷ coming f m′ (r .place)
-    coming-first =
-        rw (both-left (isReady (length f) (length m) p) (ltb 0 (length (toCome f m p))) found-both, h .ready y) (h .comes y)
+    first : coming f m p ≡ r .stretch ∷ coming f m′ (r .place)
+    first = coming-first f m p m′ r h y
 
     pub laying-room : length ds < length t
-    laying-room = omega (arith, g .fits, ap length coming-first)
+    laying-room = omega (arith, g .fits, ap length first)
 
     pub laying-less : length (coming f m′ (r .place)) < length (coming f m p)
-    laying-less = omega (arith, ap length coming-first)
+    laying-less = omega (arith, ap length first)
 
     pub laying-step : Laying f t o a (ds ++ (r .stretch ∷ [])) m′ (r .place)
     laying-step =
         record {
-          all = append-assoc ds (r .stretch ∷ []) (coming f m′ (r .place)) ∙ (rw coming-first at (g .all));
-          fits = omega (arith, g .fits, ap length coming-first, length-append ds (r .stretch ∷ []));
+          all = append-assoc ds (r .stretch ∷ []) (coming f m′ (r .place)) ∙ (rw first at (g .all));
+          fits = omega (arith, g .fits, ap length first, length-append ds (r .stretch ∷ []));
           kept = h .kept ∙ g .kept;
-          refused = λ ne. absurd (some-not-none ds (r .stretch) (coming f m′ (r .place)) ((rw coming-first at (g .all)) ∙ refused-none a (stretches f) ne));
+          refused = λ ne. absurd (some-not-none ds (r .stretch) (coming f m′ (r .place)) ((rw first at (g .all)) ∙ refused-none a (stretches f) ne));
         }
 
   module _ (y : r .found ≡ false) where

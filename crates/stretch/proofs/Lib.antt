@@ -10,6 +10,7 @@
 --   Listed      the list holds every stretch, and nothing else
 --   Order       it is in order, and holds each once
 --   Nest        a base is the level of the shortest other stretch that encloses
+--   Once        one input allows one outcome of each call
 --   Examples    P7 to P10 and the program's example, computed from the definition
 pub mod Levels
 pub mod Model
@@ -22,4 +23,5 @@ pub mod Again
 pub mod Listed
 pub mod Order
 pub mod Nest
+pub mod Once
 pub mod Examples

@@ -26,7 +26,7 @@ use Rattle.stretch.specs.declared.Step.{Step}
 use Rattle.stretch.specs.Stretches.{stretches}
 use Rattle.stretch.specs.Reading.{Run, topLevel, opened, ending, todo}
 use Rattle.stretch.specs.Generator.{pairAt, runAt, stackOf, toCome, beginning, isReady, noStep, Follows}
-use Rattle.stretch.specs.Steps.{Ready, Begins, Closes, Climbs, fallen, Falls, Finds}
+use Rattle.stretch.specs.Steps.{Ready, Begins, Closes, Ends, Climbs, fallen, Falls, Finds}
 use Rattle.stretch.proofs.Model.{todo-stretches}
 use Rattle.stretch.proofs.Stack.{stack-top, stack-below}
 use Rattle.stretch.proofs.Turn.{opened-more, opened-same, fallen-low, fallen-pop, turn-grow, turn-fall}
@@ -159,42 +159,46 @@ module _ (f o : List ℕ) (p : Place) (m : List ℕ) (read depth top : ℕ) (g :
 
 -- ---- the fall
 
-module _ (f m : List ℕ) (p : Place) (c : Closes f m p) (h : p .read < length f) where
+module _ (f m : List ℕ) (p : Place) (start under : ℕ) (n : Ends f m p start under) (h : p .read < length f) where
+  abbrev c : Closes f m p
+  c = n .closes
+
   abbrev v : ℕ
   v = getD f (p .read) 0
 
   abbrev last : ℕ
   last = p .depth - 1
 
+  abbrev lowered : List Run
+  lowered = record { start = start; level = v } ∷ stackOf m last
+
   -- the run goes on at the pixel's level, so that the pixel is read
-  falls-put : (m′ : List ℕ) → length m′ ≡ length m → fallen v (runAt m last ∷ stackOf m last) ≡ record { start = pairAt m (4 * last); level = v } ∷ stackOf m last
-      → stackOf m′ (suc last) ≡ record { start = pairAt m (4 * last); level = v } ∷ stackOf m last → Falls f m p m′ (record { read = p .read + 1; depth = p .depth })
+  falls-put : (m′ : List ℕ) → length m′ ≡ length m → fallen v (runAt m last ∷ stackOf m last) ≡ lowered → stackOf m′ (suc last) ≡ lowered
+      → Falls f m p m′ (record { read = p .read + 1; depth = p .depth })
   falls-put m′ same fell e =
       let d : suc last ≡ p .depth = omega (arith, c .some) in
       let s : p .read + 1 ≡ suc (p .read) = omega arith in
-      let stack : stackOf m′ (p .depth) ≡ record { start = pairAt m (4 * last); level = v } ∷ stackOf m last = rw d at e in
-      let read : todo (p .read) (v ∷ drop (suc (p .read)) f) (record { start = pairAt m (4 * last); level = v } ∷ stackOf m last)
-      ≡ todo (suc (p .read)) (drop (suc (p .read)) f) (record { start = pairAt m (4 * last); level = v } ∷ stackOf m last) =
-      turn-grow (p .read) v (drop (suc (p .read)) f) (record { start = pairAt m (4 * last); level = v } ∷ stackOf m last) (le-refl v)
-      ∙ ap (todo (suc (p .read)) (drop (suc (p .read)) f)) (opened-same (p .read) v (record { start = pairAt m (4 * last); level = v }) (stackOf m last) (le-refl v)) in
+      let stack : stackOf m′ (p .depth) ≡ lowered = rw d at e in
+      let ps : List ℕ = drop (suc (p .read)) f in
+      let read : todo (p .read) (v ∷ ps) lowered ≡ todo (suc (p .read)) ps lowered =
+      turn-grow (p .read) v ps lowered (le-refl v)
+      ∙ ap (todo (suc (p .read)) ps) (opened-same (p .read) v (record { start = start; level = v }) (stackOf m last) (le-refl v)) in
       record {
         ready = record { pixels = c .ready .pixels; room = omega (arith, c .ready .room); read = omega arith; depth = omega (arith, c .ready .depth) };
         comes = rw (stack-top m (p .depth) (c .some), fell, drop-cons f (p .read) 0 h, s, stack) read;
       }
 
-  pub falls-first : (m′ : List ℕ) → length m′ ≡ length m → last ≡ 0
-      → stackOf m′ (suc last) ≡ record { start = pairAt m (4 * last); level = v } ∷ stackOf m last → Falls f m p m′ (record { read = p .read + 1; depth = p .depth })
+  pub falls-first : (m′ : List ℕ) → length m′ ≡ length m → last ≡ 0 → stackOf m′ (suc last) ≡ lowered → Falls f m p m′ (record { read = p .read + 1; depth = p .depth })
   unfolding stackOf
-  falls-first m′ same z e = falls-put m′ same (rw z) e
+  falls-first m′ same z e = falls-put m′ same (rw (n .from, z)) e
 
-  pub falls-low : (m′ : List ℕ) → length m′ ≡ length m → topLevel (stackOf m last) < v
-      → stackOf m′ (suc last) ≡ record { start = pairAt m (4 * last); level = v } ∷ stackOf m last → Falls f m p m′ (record { read = p .read + 1; depth = p .depth })
-  falls-low m′ same l e = falls-put m′ same (fallen-low v (runAt m last) (stackOf m last) l) e
+  pub falls-low : (m′ : List ℕ) → length m′ ≡ length m → under < v → stackOf m′ (suc last) ≡ lowered → Falls f m p m′ (record { read = p .read + 1; depth = p .depth })
+  falls-low m′ same l e = falls-put m′ same (fallen-low v (runAt m last) (stackOf m last) (omega (arith, n .below)) ∙ rw (n .from)) e
 
-  pub falls-pop : (last ≡ 0 → ⊥) → v ≤ topLevel (stackOf m last) → Falls f m p m (record { read = p .read; depth = last })
+  pub falls-pop : (last ≡ 0 → ⊥) → v ≤ under → Falls f m p m (record { read = p .read; depth = last })
   falls-pop z l =
       let t = stack-top m last (omega arith) in
-      let k : v ≤ runAt m (last - 1) .level = omega (arith, ap topLevel t) in
+      let k : v ≤ runAt m (last - 1) .level = omega (arith, n .below, ap topLevel t) in
       let fell : fallen v (runAt m last ∷ stackOf m last) ≡ stackOf m last =
       rw t (fallen-pop v (runAt m last) (runAt m (last - 1)) (stackOf m (last - 1)) k) in
       record {
@@ -204,33 +208,36 @@ module _ (f m : List ℕ) (p : Place) (c : Closes f m p) (h : p .read < length f
 
 -- ---- the stretch found
 
-module _ (f m : List ℕ) (p : Place) (c : Closes f m p) (start level under : ℕ)
-    (e-start : start ≡ pairAt m (4 * (p .depth - 1))) (e-level : level ≡ topLevel (stackOf m (p .depth))) (e-under : under ≡ topLevel (stackOf m (p .depth - 1))) where
+module _ (f m : List ℕ) (p : Place) (start level under : ℕ) (n : Ends f m p start under) (e : level ≡ topLevel (stackOf m (p .depth))) where
+  abbrev closes : Closes f m p
+  closes = n .closes
+
   top-run : stackOf m (p .depth) ≡ record { start = start; level = level } ∷ stackOf m (p .depth - 1)
   top-run =
-      let t = stack-top m (p .depth) (c .some) in
-      t ∙ rw (e-start, e-level ∙ ap topLevel t)
+      let t = stack-top m (p .depth) (closes .some) in
+      t ∙ rw (n .from, e ∙ ap topLevel t)
 
   pub finds-end : p .read ≡ length f
       → Finds f m p m
       (record { found = true; stretch = record { start = start; end = p .read; level = level; base = under }; place = record { read = p .read; depth = p .depth - 1 } })
   unfolding todo ending
-  finds-end e =
+  finds-end q =
       let h : length f ≤ p .read = omega arith in
+      let r = closes .ready in
       record {
         found = refl;
-        comes = rw (drop-of-length-le f h, top-run, e-under);
-        ready = record { pixels = c .ready .pixels; room = c .ready .room; read = c .ready .read; depth = omega (arith, c .ready .depth) };
+        comes = rw (drop-of-length-le f h, top-run, n .below);
+        ready = record { pixels = r .pixels; room = r .room; read = r .read; depth = omega (arith, r .depth) };
       }
 
   pub finds-fall : (m′ : List ℕ) (base : ℕ) (q : Place) → p .read < length f → base ≡ max (getD f (p .read) 0) under → Falls f m p m′ q
       → Finds f m p m′ (record { found = true; stretch = record { start = start; end = p .read; level = level; base = base }; place = q })
   finds-fall m′ base q h e-base g =
-      let l : getD f (p .read) 0 < level = omega (arith, c .stops h, e-level) in
+      let l : getD f (p .read) 0 < level = omega (arith, closes .stops h) in
       let fall = turn-fall (p .read) (getD f (p .read) 0) (drop (suc (p .read)) f) (record { start = start; level = level }) (stackOf m (p .depth - 1)) l in
       record {
         found = refl;
-        comes = rw (e-base, e-under, ← g .comes, top-run, drop-cons f (p .read) 0 h) fall;
+        comes = rw (e-base, n .below, ← g .comes, top-run, drop-cons f (p .read) 0 h) fall;
         ready = g .ready;
       }
 

@@ -2,6 +2,7 @@
 --   Ready f m p          a reading of the line f can stand at p with the scratch m, as facts
 --   Begins, Climbs       the reading has gone on, and what is to come is the same
 --   Closes f m p         the topmost run ends at p: the pixel there is darker, or the line is at its end
+--   Ends                 .. and that run starts at start, and the one below it is at under
 --   fallen v rs          the runs once the topmost is ended by a pixel v
 --   Falls                from the runs so fallen the rest comes
 --   Finds                the topmost run is the stretch found
@@ -10,7 +11,7 @@
 use mathlib.Core.Path.{_≡_}
 use mathlib.Core.Bool.{true, cond}
 use mathlib.Core.List.{List, [], _∷_}
-use Prim.Native.Nat.{ℕ, _*_, _≤_, _<_}
+use Prim.Native.Nat.{ℕ, _-_, _*_, _≤_, _<_}
 use lib.ListN.{length, getD, drop}
 use Rattle.answer.specs.declared.Answer.{Answer}
 use Rattle.answer.specs.Limits.{longest}
@@ -18,7 +19,7 @@ use Rattle.answer.specs.Rules.{done, by-number}
 use Rattle.stretch.specs.declared.Place.{Place}
 use Rattle.stretch.specs.declared.Step.{Step}
 use Rattle.stretch.specs.Reading.{Run, topLevel, topHolds, todo}
-use Rattle.stretch.specs.Generator.{stackOf, toCome, beginning}
+use Rattle.stretch.specs.Generator.{pairAt, stackOf, toCome, beginning}
 
 pub record Ready (f m : List ℕ) (p : Place) : Type 0 where
   pub pixels : length f ≤ longest
@@ -36,6 +37,11 @@ pub record Closes (f m : List ℕ) (p : Place) : Type 0 where
   pub ready : Ready f m p
   pub some : 0 < p .depth
   pub stops : p .read < length f → getD f (p .read) 0 < topLevel (stackOf m (p .depth))
+
+pub record Ends (f m : List ℕ) (p : Place) (start under : ℕ) : Type 0 where
+  pub closes : Closes f m p
+  pub from : start ≡ pairAt m (4 * (p .depth - 1))
+  pub below : under ≡ topLevel (stackOf m (p .depth - 1))
 
 pub record Climbs (f m : List ℕ) (p : Place) (m′ : List ℕ) (q : Place) : Type 0 where
   pub closes : Closes f m′ q

@@ -15,7 +15,7 @@ ghost use lib.Dec.{ltb};
 ghost use lib.ListN.{length};
 ghost use Rattle.answer.specs.Limits.{longest};
 ghost use Rattle.stretch.specs.Generator.{beginning, isReady, noStep, Follows};
-ghost use Rattle.stretch.specs.Steps.{Ready, Begins, Climbs, Closes, Falls, Finds};
+ghost use Rattle.stretch.specs.Steps.{Ready, Begins, Climbs, Closes, Ends, Falls, Finds};
 
 // Where a reading begins.
 pub fn begin() -> Place
@@ -89,17 +89,16 @@ fn climb(line: &[u8], scratch: &mut [u8], at: Place) -> Place
     Place { read, depth }
 }
 
-// The pixel at hand, darker than the topmost run, ends it. The run goes on at the pixel's level, which is so read, unless the run below holds the pixel.
-fn fall(line: &[u8], scratch: &mut [u8], at: Place) -> Place
-    requires { ⌜ Closes (now line) (now scratch) at × (at .read < length (now line)) ⌝ }
+// The pixel at hand, darker than the topmost run, ends it. The run goes on from its start at the pixel's level, and the pixel is read; or, where the run below, at `under`,
+// holds the pixel, it is gone.
+fn fall(line: &[u8], scratch: &mut [u8], at: Place, start: u16, under: u8) -> Place
+    requires { ⌜ Ends (now line) (now scratch) at start under × (at .read < length (now line)) ⌝ }
     ensures { λ r. ⌜ Falls (now (line .entry)) (now (scratch .entry)) at (now (scratch .exit)) r ⌝ }
 {
     let read = at.read;
     let depth = at.depth;
     let v = line[read];
     let last = depth - 1;
-    let start = pair_at(scratch, 4 * last);
-    let under = top_level(scratch, last);
     if last == 0 {
         put(scratch, last, start, v);
         return Place {
@@ -142,7 +141,7 @@ fn close(line: &[u8], scratch: &mut [u8], at: Place) -> Step
         };
     }
     let base = wide(brighter(line[read], under));
-    let place = fall(line, scratch, at);
+    let place = fall(line, scratch, at, start, under);
     Step {
         found: true,
         stretch: Stretch {

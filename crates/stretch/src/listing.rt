@@ -46,11 +46,11 @@ fn start(a: Answer) -> Place
 }
 
 // A refusal stays; a done listing hands back the count of stretches.
-fn finish(a: Answer, entries: usize) -> Answer
-    ensures { λ r. ⌜ r ≡ finished a entries ⌝ }
+fn finish(tested: Answer, entries: usize) -> Answer
+    ensures { λ r. ⌜ r ≡ finished tested entries ⌝ }
 {
-    if a.number != 0 {
-        return a;
+    if tested.number != 0 {
+        return tested;
     }
     Answer::done(entries as u64)
 }

@@ -35,12 +35,13 @@ same-length c = search needs
 
 returns : tie.Need-returns
 returns c =
-    let start = c .before .before .before .before .before .before .before .before .before .before .before in
+    let a = c .before .before .before .before .before .before .before .before .before .before .before .args in
     let from = c .before .before .before .before .before .before .before .pair-at in
     let level = c .before .before .before .before .wide in
     let base = c .wide2 in
-    finds-end (start .args .line .now) (start .args .scratch .now) (start .args .at) (start .pre) (from .result) (level .result) (base .result)
-    (from .ensures) (level .ensures .0 ∙ c .before .before .before .before .before .top-level .ensures) (base .ensures .0 ∙ c .before .before .top-level2 .ensures) (omega arith)
+    finds-end (a .line .now) (a .scratch .now) (a .at) (from .result) (level .result) (base .result)
+    (record { closes = c .before .before .before .before .before .before .before .before .before .before .before .pre; from = from .ensures; below = base .ensures .0 ∙ c .before .before .top-level2 .ensures })
+    (level .ensures .0 ∙ c .before .before .before .before .before .top-level .ensures) (omega arith)
 
 shared-slice-read-brighter : tie.Need-shared-slice-read-brighter
 shared-slice-read-brighter c = search needs
@@ -52,22 +53,23 @@ wide-requires-3 : tie.Need-wide-requires-3
 wide-requires-3 c κs = search needs
 
 fall-requires : tie.Need-fall-requires
-fall-requires c κs = (c .before .before .before .before .before .before .before .before .before .before .before .before .before .before .pre, omega arith)
+fall-requires c κs = (record { closes = c .before .before .before .before .before .before .before .before .before .before .before .before .before .before .pre; from = c .before .before .before .before .before .before .before .before .before .before .pair-at .ensures; below = c .before .before .before .before .before .top-level2 .ensures }, omega arith)
 
 same-length-2 : tie.Need-same-length-2
 same-length-2 c = search needs
 
 returns-2 : tie.Need-returns-2
 returns-2 c =
-    let start = c .before .before .before .before .before .before .before .before .before .before .before .before .before .before .before .before .before in
+    let a = c .before .before .before .before .before .before .before .before .before .before .before .before .before .before .before .before .before .args in
     let from = c .before .before .before .before .before .before .before .before .before .before .before .before .before .pair-at in
     let level = c .before .before .before .before .before .before .before .before .before .before .wide in
     let under = c .before .before .before .before .before .before .before .before .top-level2 in
     let base = c .before .before .before .before .wide3 in
     let fell = c .before .before .fall in
-    finds-fall (start .args .line .now) (start .args .scratch .now) (start .args .at) (start .pre) (from .result) (level .result) (under .result)
-    (from .ensures) (level .ensures .0 ∙ c .before .before .before .before .before .before .before .before .before .before .before .top-level .ensures) (under .ensures)
-    (fell .last .1 .0) (base .result) (fell .result) (omega arith) (base .ensures .0 ∙ c .before .before .before .before .before .brighter .ensures) (fell .ensures)
+    finds-fall (a .line .now) (a .scratch .now) (a .at) (from .result) (level .result) (under .result)
+    (record { closes = c .before .before .before .before .before .before .before .before .before .before .before .before .before .before .before .before .before .pre; from = from .ensures; below = under .ensures })
+    (level .ensures .0 ∙ c .before .before .before .before .before .before .before .before .before .before .before .top-level .ensures)
+    (fell .last .1 .0) (base .result) (fell .result) (omega (arith, c .before .before .before .before .before .before .before .before .before .before .before .before .before .before .before .before .before .pre .ready .read)) (base .ensures .0 ∙ c .before .before .before .before .before .brighter .ensures) (fell .ensures)
 
 pub close-spec : {M : Type 1} → statement M
 close-spec =

@@ -11,54 +11,43 @@ shared-slice-read-v c = search needs
 sub-last : tie.Need-sub-last
 sub-last c = search needs
 
-mul-pair-at : tie.Need-mul-pair-at
-mul-pair-at c = search needs
-
-pair-at-requires : tie.Need-pair-at-requires
-pair-at-requires c κs = search needs
-
-top-level-requires : tie.Need-top-level-requires
-top-level-requires c κs = search needs
-
 put-requires : tie.Need-put-requires
 put-requires c κs = search needs
 
-add-t21 : tie.Need-add-t21
-add-t21 c = search needs
+add-t16 : tie.Need-add-t16
+add-t16 c = search needs
 
 same-length : tie.Need-same-length
 same-length c = search needs
 
 returns : tie.Need-returns
 returns c =
-    let start = c .before .before .before .before .before .before .before .before .before .before .before .before in
+    let a = c .before .before .before .before .before .before .before .before .args in
+    let p = c .before .before .before .before .before .before .before .before .pre in
     let stored = c .before .before .put in
-    falls-first (start .args .line .now) (start .args .scratch .now) (start .args .at) (start .pre .0) (start .pre .1) (stored .last .0) (stored .kept .0) (omega arith)
-    (rw (c .before .before .before .before .before .before .before .pair-at .ensures) at (stored .ensures))
+    falls-first (a .line .now) (a .scratch .now) (a .at) (a .start) (a .under) (p .0) (p .1) (stored .last .0) (stored .kept .0) (omega arith) (stored .ensures)
 
 put-requires-2 : tie.Need-put-requires-2
 put-requires-2 c κs = search needs
 
-add-t25 : tie.Need-add-t25
-add-t25 c = search needs
+add-t20 : tie.Need-add-t20
+add-t20 c = search needs
 
 same-length-2 : tie.Need-same-length-2
 same-length-2 c = search needs
 
 returns-2 : tie.Need-returns-2
 returns-2 c =
-    let start = c .before .before .before .before .before .before .before .before .before .before .before .before .before in
+    let a = c .before .before .before .before .before .before .before .before .before .args in
+    let p = c .before .before .before .before .before .before .before .before .before .pre in
     let stored = c .before .before .put2 in
-    falls-low (start .args .line .now) (start .args .scratch .now) (start .args .at) (start .pre .0) (start .pre .1) (stored .last .0) (stored .kept .0) (omega arith)
-    (rw (c .before .before .before .before .before .before .before .before .pair-at .ensures) at (stored .ensures))
-
-same-length-3 : tie.Need-same-length-3
-same-length-3 c = search needs
+    falls-low (a .line .now) (a .scratch .now) (a .at) (a .start) (a .under) (p .0) (p .1) (stored .last .0) (stored .kept .0) (omega arith) (stored .ensures)
 
 returns-3 : tie.Need-returns-3
 returns-3 c =
-    let start = c .before .before .before .before .before .before .before .before .before in
-    falls-pop (start .args .line .now) (start .args .scratch .now) (start .args .at) (start .pre .0) (start .pre .1) (λ e. omega arith) (omega arith)
+    let a = c .before .before .before .before .before .args in
+    let p = c .before .before .before .before .before .pre in
+    falls-pop (a .line .now) (a .scratch .now) (a .at) (a .start) (a .under) (p .0) (p .1) (λ e. omega arith) (omega arith)
 
 pub fall-spec : {M : Type 1} → statement M
 fall-spec =
@@ -66,16 +55,12 @@ fall-spec =
     (tie.spec
     shared-slice-read-v
     sub-last
-    mul-pair-at
-    pair-at-requires
-    top-level-requires
     put-requires
-    add-t21
+    add-t16
     same-length
     returns
     put-requires-2
-    add-t25
+    add-t20
     same-length-2
     returns-2
-    same-length-3
     returns-3)
