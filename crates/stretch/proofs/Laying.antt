@@ -1,7 +1,5 @@
 -- What the loop of the listing keeps to: the stretches laid into the table and those to come are the list, or nothing where the call is refused.
---   coming f m p          what is to come at p; nothing where no reading can stand there
 --   listed f t o          the rules of a listing of f into the table t with the scratch o
---   coming-first          the stretch that a step finds is the first of them
 --   Laying                where the listing stands; laying-start, laying-step, laying-end
 -- Assumes nothing.
 use mathlib.Core.Path.{_≡_, refl, sym, ap, _∙_}
@@ -22,13 +20,10 @@ use Rattle.stretch.specs.declared.Stretch.{Stretch}
 use Rattle.stretch.specs.declared.Place.{Place}
 use Rattle.stretch.specs.declared.Step.{Step}
 use Rattle.stretch.specs.Stretches.{stretches}
-use Rattle.stretch.specs.Generator.{toCome, beginning, isReady, noStep, Follows}
+use Rattle.stretch.specs.Generator.{coming, beginning, isReady, Follows}
 use Rattle.stretch.specs.Listing.{listRules, ListsLine}
 use Rattle.stretch.specs.Steps.{startOf, finished}
-use Rattle.stretch.proofs.Steps.{to-come-beginning, ready-beginning}
-
-abbrev pub coming : List ℕ → List ℕ → Place → List Stretch
-coming f m p = cond (isReady (length f) (length m) p) (toCome f m p) []
+use Rattle.stretch.proofs.Steps.{coming-beginning, coming-none}
 
 -- ds is laid; t and o are the table and the scratch as they were lent, and a the answer
 pub record Laying (f : List ℕ) (t : List Stretch) (o : List ℕ) (a : Answer) (ds : List Stretch) (m : List ℕ) (p : Place) : Type 0 where
@@ -70,7 +65,7 @@ laying-start f t o a p e s = go (a .number) refl
         let spare = ltb-false (length o) (8 * length f) (held .1 .0) in
         let room = ltb-false (length t) (length (stretches f)) (held .1 .1 .0) in
         let q : p ≡ beginning = s ∙ rw z in
-        let c : coming f o p ≡ stretches f = rw (q, ready-beginning f o (pixels .1) (omega arith)) (to-come-beginning f o) in
+        let c : coming f o p ≡ stretches f = rw q (coming-beginning f o (pixels .1) (omega arith)) in
         record { all = rw (c, z); fits = rw c (omega arith); kept = refl; refused = λ ne. refl }
     go (suc k) z =
         let q : p ≡ record { read = 0; depth = 1 } = s ∙ rw z in
@@ -83,17 +78,11 @@ some-not-none ds s ss e = omega (arith, ap length e, length-append ds (s ∷ ss)
 refused-none : (a : Answer) (l : List Stretch) → (a .number ≡ 0 → ⊥) → by-number (a .number) l [] ≡ []
 refused-none a l ne = after-refused a l [] ne
 
--- the stretch found is the first of those to come
-pub coming-first : (f m : List ℕ) (p : Place) (m′ : List ℕ) (r : Step) → Follows f m p m′ r → r .found ≡ true → coming f m p ≡ r .stretch ∷ coming f m′ (r .place)
-coming-first f m p m′ r h y =
-    let e : (isReady (length f) (length m) p && ltb 0 (length (toCome f m p))) ≡ true = sym (h .found) ∙ y in
-    rw (both-left (isReady (length f) (length m) p) (ltb 0 (length (toCome f m p))) e, h .ready y) (h .comes y)
-
 module _ (f : List ℕ) (t : List Stretch) (o : List ℕ) (a : Answer) (ds : List Stretch) (m : List ℕ) (p : Place) (g : Laying f t o a ds m p)
     (m′ : List ℕ) (r : Step) (h : Follows f m p m′ r) where
   module _ (y : r .found ≡ true) where
     first : coming f m p ≡ r .stretch ∷ coming f m′ (r .place)
-    first = coming-first f m p m′ r h y
+    first = h .comes y
 
     pub laying-room : length ds < length t
     laying-room = omega (arith, g .fits, ap length first)
@@ -111,17 +100,8 @@ module _ (f : List ℕ) (t : List Stretch) (o : List ℕ) (a : Answer) (ds : Lis
         }
 
   module _ (y : r .found ≡ false) where
-    coming-none : coming f m p ≡ []
-    coming-none = go (isReady (length f) (length m) p) refl (toCome f m p) refl
-      where
-        go : (b : Bool) → isReady (length f) (length m) p ≡ b → (l : List Stretch) → toCome f m p ≡ l → coming f m p ≡ []
-        go true e [] q = rw (e, q)
-        go true e (s ∷ ss) q =
-            absurd (true≢false (sym (sym y ∙ h .found ∙ rw (e, q) (lt-ltb 0 (length (s ∷ ss)) (omega arith)))))
-        go false e l q = rw e
-
     all-laid : ds ≡ by-number (a .number) (stretches f) []
-    all-laid = sym (append-nil ds) ∙ (rw coming-none at (g .all))
+    all-laid = sym (append-nil ds) ∙ (rw (coming-none f m p m′ r h y) at (g .all))
 
     pub laying-end : a ≡ answer (listed f t o) 0 → (b : Answer) → b ≡ finished a (length ds) → ListsLine f t (front ds t) o m′ b
     laying-end e b q = go (a .number) refl

@@ -13,9 +13,8 @@ use Rattle.stretch.specs.declared.Stretch.{Stretch}
 use Rattle.stretch.specs.declared.Place.{Place}
 use Rattle.stretch.specs.declared.Step.{Step}
 use Rattle.stretch.specs.Stretches.{stretches}
-use Rattle.stretch.specs.Generator.{Follows}
+use Rattle.stretch.specs.Generator.{coming, Follows}
 use Rattle.stretch.specs.Listing.{ListsLine}
-use Rattle.stretch.proofs.Laying.{coming, coming-first}
 
 pub lists-once : {f : List ℕ} {t t₁ t₂ : List Stretch} {m m₁ m₂ : List ℕ} {a₁ a₂ : Answer} → ListsLine f t t₁ m m₁ a₁ → ListsLine f t t₂ m m₂ a₂
     → (a₁ ≡ a₂) × (t₁ ≡ t₂)
@@ -33,7 +32,7 @@ follows-once {f} {m} {p} {m₁} {m₂} {r₁} {r₂} g h = go (r₁ .found) refl
     go : (b : Bool) → r₁ .found ≡ b → (r₁ .found ≡ r₂ .found) × (r₁ .stretch ≡ r₂ .stretch) × (coming f m₁ (r₁ .place) ≡ coming f m₂ (r₂ .place))
     go true y =
         let e : r₁ .stretch ∷ coming f m₁ (r₁ .place) ≡ r₂ .stretch ∷ coming f m₂ (r₂ .place) =
-        sym (coming-first f m p m₁ r₁ g y) ∙ coming-first f m p m₂ r₂ h (sym same ∙ y) in
+        sym (g .comes y) ∙ h .comes (sym same ∙ y) in
         let s : r₁ .stretch ≡ r₂ .stretch = cc in
         let rest : coming f m₁ (r₁ .place) ≡ coming f m₂ (r₂ .place) = cc in
         (same, s, rest)

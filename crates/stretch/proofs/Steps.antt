@@ -1,7 +1,7 @@
 -- What the parts of a step do to the stretches to come at a place.
---   to-come-beginning                       from the beginning on, every stretch is to come
 --   ready-test, test-ready                  the test of a place, and its facts
---   ready-beginning                         a reading can begin
+--   coming-beginning                        from the beginning on, every stretch is to come
+--   coming-none                             where a step finds none, none is to come
 --   begins-as, begins-end, begins-first     a run is open already, or the line is at its end, or the pixel opens one
 --   Climbing                                where a climb stands; climbing-start, -more, -stops, -end
 --   falls-first, falls-low, falls-pop       the topmost run falls
@@ -9,7 +9,7 @@
 --   follows-none, follows-lost, follows-found    the ways out of a step
 -- Assumes nothing.
 use mathlib.Core.Path.{_≡_, refl, sym, ap, _∙_}
-use mathlib.Core.Bool.{Bool, true, false, cond, _&&_, true≢false}
+use mathlib.Core.Bool.{Bool, true, false, cond, _&&_, true≢false, false≢true}
 use mathlib.Core.List.{List, [], _∷_}
 use Prim.Native.Nat.{ℕ, zero, suc, _+_, _-_, _*_, _≤_, _<_, max}
 use native.Mathlib.Nat.{le-refl}
@@ -25,15 +25,11 @@ use Rattle.stretch.specs.declared.Place.{Place}
 use Rattle.stretch.specs.declared.Step.{Step}
 use Rattle.stretch.specs.Stretches.{stretches}
 use Rattle.stretch.specs.Reading.{Run, topLevel, opened, ending, todo}
-use Rattle.stretch.specs.Generator.{pairAt, runAt, stackOf, toCome, beginning, isReady, noStep, Follows}
+use Rattle.stretch.specs.Generator.{pairAt, runAt, stackOf, toCome, coming, beginning, isReady, noStep, Follows}
 use Rattle.stretch.specs.Steps.{Ready, Begins, Closes, Ends, Climbs, fallen, Falls, Finds}
 use Rattle.stretch.proofs.Model.{todo-stretches}
 use Rattle.stretch.proofs.Stack.{stack-top, stack-below}
 use Rattle.stretch.proofs.Turn.{opened-more, opened-same, fallen-low, fallen-pop, turn-grow, turn-fall}
-
-pub to-come-beginning : (f m : List ℕ) → toCome f m beginning ≡ stretches f
-unfolding stackOf
-to-come-beginning f m = todo-stretches f
 
 -- ---- the test of a place
 
@@ -61,8 +57,10 @@ test-ready f m p e =
       depth = leb-true (p .depth) (p .read) (both-right read depth e₂);
     }
 
-pub ready-beginning : (f m : List ℕ) → length f ≤ longest → 4 * length f ≤ length m → isReady (length f) (length m) beginning ≡ true
-ready-beginning f m p r = ready-test f m beginning (record { pixels = p; room = r; read = omega arith; depth = le-refl 0 })
+pub coming-beginning : (f m : List ℕ) → length f ≤ longest → 4 * length f ≤ length m → coming f m beginning ≡ stretches f
+unfolding stackOf
+coming-beginning f m pixels room =
+    rw (ready-test f m beginning (record { pixels = pixels; room = room; read = omega arith; depth = le-refl 0 })) (todo-stretches f)
 
 -- ---- the first run
 
@@ -244,33 +242,28 @@ module _ (f m : List ℕ) (p : Place) (start level under : ℕ) (n : Ends f m p 
 -- ---- the ways out of a step
 
 module _ (f m : List ℕ) (p : Place) where
+  follows-nothing : (m′ : List ℕ) → coming f m p ≡ [] → m′ ≡ m → Follows f m p m′ (noStep p)
+  follows-nothing m′ z s = record { found = rw z; comes = λ t. absurd (false≢true t); none = λ _. (refl, s); kept = ap length s }
+
   pub follows-lost : isReady (length f) (length m) p ≡ false → Follows f m p m (noStep p)
-  follows-lost e =
+  follows-lost e = follows-nothing m (rw e) refl
+
+  pub follows-none : (m′ : List ℕ) → Ready f m p → toCome f m p ≡ [] → m′ ≡ m → Follows f m p m′ (noStep p)
+  follows-none m′ r z s = follows-nothing m′ (rw (ready-test f m p r, z)) s
+
+  pub follows-found : Ready f m p → (m₁ m′ : List ℕ) (q : Place) (r : Step) → toCome f m p ≡ toCome f m₁ q → Finds f m₁ q m′ r → length m′ ≡ length m → Follows f m p m′ r
+  follows-found ready m₁ m′ q r s g k =
+      let e : coming f m p ≡ r .stretch ∷ coming f m′ (r .place) = rw (ready-test f m p ready, ready-test f m′ (r .place) (g .ready)) (s ∙ g .comes) in
       record {
-        found = rw e;
-        comes = λ t. absurd (true≢false (sym t));
-        ready = λ t. absurd (true≢false (sym t));
-        none = λ _. (refl, refl);
-        kept = refl;
+        found = g .found ∙ sym (rw e (lt-ltb 0 (length (r .stretch ∷ coming f m′ (r .place))) (omega arith)));
+        comes = λ _. e;
+        none = λ t. absurd (true≢false (sym (g .found) ∙ t));
+        kept = k;
       }
 
-  module _ (e : isReady (length f) (length m) p ≡ true) where
-    pub follows-none : (m′ : List ℕ) → toCome f m p ≡ [] → m′ ≡ m → Follows f m p m′ (noStep p)
-    follows-none m′ z s =
-        record {
-          found = rw (e, z);
-          comes = λ t. absurd (true≢false (sym t));
-          ready = λ t. absurd (true≢false (sym t));
-          none = λ _. (refl, s);
-          kept = ap length s;
-        }
-
-    pub follows-found : (m₁ m′ : List ℕ) (q : Place) (r : Step) → toCome f m p ≡ toCome f m₁ q → Finds f m₁ q m′ r → length m′ ≡ length m → Follows f m p m′ r
-    follows-found m₁ m′ q r s g k =
-        record {
-          found = g .found ∙ sym (rw (e, s, g .comes) (lt-ltb 0 (length (r .stretch ∷ toCome f m′ (r .place))) (omega arith)));
-          comes = λ _. s ∙ g .comes;
-          ready = λ _. ready-test f m′ (r .place) (g .ready);
-          none = λ t. absurd (true≢false (sym (g .found) ∙ t));
-          kept = k;
-        }
+  pub coming-none : (m′ : List ℕ) (r : Step) → Follows f m p m′ r → r .found ≡ false → coming f m p ≡ []
+  coming-none m′ r h y = go (coming f m p) (sym (h .found) ∙ y)
+    where
+      go : (l : List Stretch) → ltb 0 (length l) ≡ false → l ≡ []
+      go [] e = refl
+      go (s ∷ ss) e = absurd (omega (arith, ltb-false 0 (length (s ∷ ss)) e))

@@ -3,13 +3,14 @@
 --   runAt m i            the run number i of the scratch m: two bytes of start, one of level, one free
 --   stackOf m d          the first d runs of the scratch m, the last on top
 --   toCome f m p         the stretches of the line f still to come at the place p, with the scratch m
---   beginning            the place where a reading begins: from there every stretch is to come
 --   isReady n room p     a reading of n pixels can stand at p, with room bytes of scratch
+--   coming f m p         what is to come at p; nothing where no reading can stand there
+--   beginning            the place where a reading begins
 --   noStep p             no stretch is found, and the place is p
 --   Follows f m p m′ r   what `next` hands back and leaves
--- Laws: stretch/proofs/Turn, Steps (to-come-beginning, ready-beginning ..).
+-- Laws: stretch/proofs/Steps (coming-beginning: from the beginning on every stretch is to come; coming-none: where none is found, none is).
 use mathlib.Core.Path.{_≡_}
-use mathlib.Core.Bool.{Bool, true, false, _&&_}
+use mathlib.Core.Bool.{Bool, true, false, cond, _&&_}
 use mathlib.Core.List.{List, [], _∷_}
 use Prim.Native.Nat.{ℕ, zero, suc, _+_, _*_}
 use lib.Dec.{ltb, leb}
@@ -33,21 +34,23 @@ stackOf m (suc d) = runAt m d ∷ stackOf m d
 abbrev pub toCome : List ℕ → List ℕ → Place → List Stretch
 toCome f m p = todo (p .read) (drop (p .read) f) (stackOf m (p .depth))
 
-abbrev pub beginning : Place
-beginning = record { read = 0; depth = 0 }
-
 -- a run has a pixel of its own, so that no more are open than pixels are read
 abbrev pub isReady : ℕ → ℕ → Place → Bool
 isReady n room p = leb n longest && (leb (4 * n) room && (leb (p .read) n && leb (p .depth) (p .read)))
 
+abbrev pub coming : List ℕ → List ℕ → Place → List Stretch
+coming f m p = cond (isReady (length f) (length m) p) (toCome f m p) []
+
+abbrev pub beginning : Place
+beginning = record { read = 0; depth = 0 }
+
 abbrev pub noStep : Place → Step
 noStep p = record { found = false; stretch = record { start = 0; end = 0; level = 0; base = 0 }; place = p }
 
--- Where a reading can stand at p and some stretch is to come, the first of them is found, and the others come from the place handed back; else nothing is found and
--- nothing changes. Of the scratch after a step, and of the place handed back, only this is said: what comes from there.
+-- Where some stretch is to come, the first is found, and the others come from the place handed back; else nothing is found and nothing changes.
+-- Of the scratch after a step, and of the place handed back, only this is said: what comes from there.
 pub record Follows (f m : List ℕ) (p : Place) (m′ : List ℕ) (r : Step) : Type 0 where
-  pub found : r .found ≡ (isReady (length f) (length m) p && ltb 0 (length (toCome f m p)))
-  pub comes : r .found ≡ true → toCome f m p ≡ r .stretch ∷ toCome f m′ (r .place)
-  pub ready : r .found ≡ true → isReady (length f) (length m′) (r .place) ≡ true
+  pub found : r .found ≡ ltb 0 (length (coming f m p))
+  pub comes : r .found ≡ true → coming f m p ≡ r .stretch ∷ coming f m′ (r .place)
   pub none : r .found ≡ false → (r ≡ noStep p) × (m′ ≡ m)
   pub kept : length m′ ≡ length m

@@ -8,7 +8,8 @@ use Rattle.stretch.proofs.generator.climb.Statement.{statement}
 use Rattle.stretch.proofs.generator.climb.Tie as tie
 
 abbrev Inv-loop : tie.InvT-loop
-Inv-loop line scratch₀ read₀ depth₀ top₀ scratch read depth top = Climbing line scratch₀ (record { read = read₀; depth = depth₀ }) scratch read depth top
+Inv-loop line scratch₀ read₀ depth₀ top₀ scratch read depth top =
+    Climbing line scratch₀ (record { read = read₀; depth = depth₀ }) scratch read depth top
 
 abbrev μ-loop : tie.MeasureT-loop
 μ-loop line scratch₀ read₀ depth₀ top₀ scratch read depth top = length line - read
@@ -18,8 +19,9 @@ top-level-requires c κs = search needs
 
 loop-holds : tie.Need-loop-holds Inv-loop μ-loop
 loop-holds c =
-    let a = c .before .before .before .before .args in
-    climbing-start (a .line .now) (a .scratch .now) (a .at) (c .top-level .result) (c .before .before .before .before .pre .0) (c .before .before .before .before .pre .1) (c .top-level .ensures)
+    let entry = c .before .before .before .before in
+    let a = entry .args in
+    climbing-start (a .line .now) (a .scratch .now) (a .at) (c .top-level .result) (entry .pre .0) (entry .pre .1) (c .top-level .ensures)
 
 shared-slice-read-v : tie.Need-shared-slice-read-v Inv-loop μ-loop
 shared-slice-read-v c = search needs
@@ -29,8 +31,10 @@ same-length c = c .before .before .before .loop .inv .kept
 
 returns : tie.Need-returns Inv-loop μ-loop
 returns c =
-    let a = c .before .before .before .before .before .before .before .before .args in
-    let l = c .before .before .before .loop in
+    let head = c .before .before .before in
+    let entry = head .before .before .before .before .before in
+    let l = head .loop in
+    let a = entry .args in
     climbing-stops (a .line .now) (a .scratch .now) (a .at) (l .scratch) (l .read) (l .depth) (l .top) (l .inv) (omega arith)
 
 cast-put : tie.Need-cast-put Inv-loop μ-loop
@@ -50,9 +54,12 @@ loop-less c = search needs
 
 loop-again : tie.Need-loop-again Inv-loop μ-loop
 loop-again c =
-    let a = c .before .before .before .before .before .before .before .before .before .before .before .before .before .args in
-    let l = c .before .before .before .before .before .before .before .before .loop in
-    let stored = c .before .before .before .put in
+    let at-put = c .before .before .before in
+    let head = at-put .before .before .before .before .before in
+    let entry = head .before .before .before .before .before in
+    let stored = at-put .put in
+    let l = head .loop in
+    let a = entry .args in
     climbing-more (a .line .now) (a .scratch .now) (a .at) (l .scratch) (l .read) (l .depth) (l .top) (l .inv) (omega arith) (omega arith)
     (stored .last .0) (c .grown .result) (stored .kept .0) (stored .ensures) (c .grown .ensures)
 
@@ -61,8 +68,10 @@ same-length-2 c = c .before .loop .inv .kept
 
 returns-2 : tie.Need-returns-2 Inv-loop μ-loop
 returns-2 c =
-    let a = c .before .before .before .before .before .before .args in
-    let l = c .before .loop in
+    let head = c .before in
+    let entry = head .before .before .before .before .before in
+    let l = head .loop in
+    let a = entry .args in
     climbing-end (a .line .now) (a .scratch .now) (a .at) (l .scratch) (l .read) (l .depth) (l .top) (l .inv) (omega arith)
 
 pub climb-spec : {M : Type 1} → statement M

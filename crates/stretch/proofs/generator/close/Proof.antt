@@ -35,13 +35,18 @@ same-length c = search needs
 
 returns : tie.Need-returns
 returns c =
-    let a = c .before .before .before .before .before .before .before .before .before .before .before .args in
-    let from = c .before .before .before .before .before .before .before .pair-at in
-    let level = c .before .before .before .before .wide in
+    let at-under = c .before .before in
+    let at-level = at-under .before .before in
+    let at-top = at-level .before in
+    let at-start = at-top .before .before in
+    let entry = at-start .before .before .before .before in
+    let start = at-start .pair-at in
+    let level = at-level .wide in
     let base = c .wide2 in
-    finds-end (a .line .now) (a .scratch .now) (a .at) (from .result) (level .result) (base .result)
-    (record { closes = c .before .before .before .before .before .before .before .before .before .before .before .pre; from = from .ensures; below = base .ensures .0 ∙ c .before .before .top-level2 .ensures })
-    (level .ensures .0 ∙ c .before .before .before .before .before .top-level .ensures) (omega arith)
+    let a = entry .args in
+    finds-end (a .line .now) (a .scratch .now) (a .at) (start .result) (level .result) (base .result)
+    (record { closes = entry .pre; from = start .ensures; below = base .ensures .0 ∙ at-under .top-level2 .ensures })
+    (level .ensures .0 ∙ at-top .top-level .ensures) (omega arith)
 
 shared-slice-read-brighter : tie.Need-shared-slice-read-brighter
 shared-slice-read-brighter c = search needs
@@ -53,23 +58,37 @@ wide-requires-3 : tie.Need-wide-requires-3
 wide-requires-3 c κs = search needs
 
 fall-requires : tie.Need-fall-requires
-fall-requires c κs = (record { closes = c .before .before .before .before .before .before .before .before .before .before .before .before .before .before .pre; from = c .before .before .before .before .before .before .before .before .before .before .pair-at .ensures; below = c .before .before .before .before .before .top-level2 .ensures }, omega arith)
+fall-requires c κs =
+    let at-under = c .before .before .before .before .before in
+    let at-start = at-under .before .before .before .before .before in
+    let entry = at-start .before .before .before .before in
+    (record { closes = entry .pre; from = at-start .pair-at .ensures; below = at-under .top-level2 .ensures }, omega arith)
 
 same-length-2 : tie.Need-same-length-2
 same-length-2 c = search needs
 
 returns-2 : tie.Need-returns-2
 returns-2 c =
-    let a = c .before .before .before .before .before .before .before .before .before .before .before .before .before .before .before .before .before .args in
-    let from = c .before .before .before .before .before .before .before .before .before .before .before .before .before .pair-at in
-    let level = c .before .before .before .before .before .before .before .before .before .before .wide in
-    let under = c .before .before .before .before .before .before .before .before .top-level2 in
-    let base = c .before .before .before .before .wide3 in
-    let fell = c .before .before .fall in
-    finds-fall (a .line .now) (a .scratch .now) (a .at) (from .result) (level .result) (under .result)
-    (record { closes = c .before .before .before .before .before .before .before .before .before .before .before .before .before .before .before .before .before .pre; from = from .ensures; below = under .ensures })
-    (level .ensures .0 ∙ c .before .before .before .before .before .before .before .before .before .before .before .top-level .ensures)
-    (fell .last .1 .0) (base .result) (fell .result) (omega (arith, c .before .before .before .before .before .before .before .before .before .before .before .before .before .before .before .before .before .pre .ready .read)) (base .ensures .0 ∙ c .before .before .before .before .before .brighter .ensures) (fell .ensures)
+    let at-fall = c .before .before in
+    let at-base = at-fall .before .before in
+    let at-brighter = at-base .before in
+    let not-end = at-brighter .before .before in
+    let at-under = not-end .before in
+    let at-level = at-under .before .before in
+    let at-top = at-level .before in
+    let at-start = at-top .before .before in
+    let entry = at-start .before .before .before .before in
+    let start = at-start .pair-at in
+    let level = at-level .wide in
+    let under = at-under .top-level2 in
+    let base = at-base .wide3 in
+    let fell = at-fall .fall in
+    let a = entry .args in
+    finds-fall (a .line .now) (a .scratch .now) (a .at) (start .result) (level .result) (under .result)
+    (record { closes = entry .pre; from = start .ensures; below = under .ensures })
+    (level .ensures .0 ∙ at-top .top-level .ensures)
+    (fell .last .1 .0) (base .result) (fell .result) (omega (arith, entry .pre .ready .read, not-end .if1 .left))
+    (base .ensures .0 ∙ at-brighter .brighter .ensures) (fell .ensures)
 
 pub close-spec : {M : Type 1} → statement M
 close-spec =

@@ -22,10 +22,11 @@ same-length c = search needs
 
 returns : tie.Need-returns
 returns c =
-    let a = c .before .before .before .before .before .before .before .before .args in
-    let p = c .before .before .before .before .before .before .before .before .pre in
-    let stored = c .before .before .put in
-    falls-first (a .line .now) (a .scratch .now) (a .at) (a .start) (a .under) (p .0) (p .1) (stored .last .0) (stored .kept .0) (omega arith) (stored .ensures)
+    let at-put = c .before .before in
+    let entry = at-put .before .before .before .before .before .before in
+    let stored = at-put .put in
+    let a = entry .args in
+    falls-first (a .line .now) (a .scratch .now) (a .at) (a .start) (a .under) (entry .pre .0) (entry .pre .1) (stored .last .0) (stored .kept .0) (omega arith) (stored .ensures)
 
 put-requires-2 : tie.Need-put-requires-2
 put-requires-2 c κs = search needs
@@ -38,16 +39,17 @@ same-length-2 c = search needs
 
 returns-2 : tie.Need-returns-2
 returns-2 c =
-    let a = c .before .before .before .before .before .before .before .before .before .args in
-    let p = c .before .before .before .before .before .before .before .before .before .pre in
-    let stored = c .before .before .put2 in
-    falls-low (a .line .now) (a .scratch .now) (a .at) (a .start) (a .under) (p .0) (p .1) (stored .last .0) (stored .kept .0) (omega arith) (stored .ensures)
+    let at-put = c .before .before in
+    let entry = at-put .before .before .before .before .before .before .before in
+    let stored = at-put .put2 in
+    let a = entry .args in
+    falls-low (a .line .now) (a .scratch .now) (a .at) (a .start) (a .under) (entry .pre .0) (entry .pre .1) (stored .last .0) (stored .kept .0) (omega arith) (stored .ensures)
 
 returns-3 : tie.Need-returns-3
 returns-3 c =
-    let a = c .before .before .before .before .before .args in
-    let p = c .before .before .before .before .before .pre in
-    falls-pop (a .line .now) (a .scratch .now) (a .at) (a .start) (a .under) (p .0) (p .1) (λ e. omega arith) (omega arith)
+    let entry = c .before .before .before .before .before in
+    let a = entry .args in
+    falls-pop (a .line .now) (a .scratch .now) (a .at) (a .start) (a .under) (entry .pre .0) (entry .pre .1) (λ e. omega arith) (omega arith)
 
 pub fall-spec : {M : Type 1} → statement M
 fall-spec =

@@ -8,13 +8,15 @@ use Rattle.stretch.proofs.generator.open_first.Tie as tie
 
 returns : tie.Need-returns
 returns c =
-    let a = c .before .before .before .before .args in
-    begins-as (a .line .now) (a .scratch .now) (a .at) (c .before .before .before .before .pre) (c .if1 .taken)
+    let entry = c .before .before .before .before in
+    let a = entry .args in
+    begins-as (a .line .now) (a .scratch .now) (a .at) (entry .pre) (c .if1 .taken)
 
 returns-2 : tie.Need-returns-2
 returns-2 c =
-    let a = c .before .before .before .before .before .args in
-    begins-end (a .line .now) (a .scratch .now) (a .at) (c .before .before .before .before .before .pre) (c .before .if1 .left) (c .if2 .taken)
+    let entry = c .before .before .before .before .before in
+    let a = entry .args in
+    begins-end (a .line .now) (a .scratch .now) (a .at) (entry .pre) (c .before .if1 .left) (c .if2 .taken)
 
 cast-put : tie.Need-cast-put
 cast-put c = search needs
@@ -33,11 +35,14 @@ same-length c = search needs
 
 returns-3 : tie.Need-returns-3
 returns-3 c =
-    let start = c .before .before .before .before .before .before .before .before .before .before in
-    let f = start .args .line .now in
-    let stored = c .before .before .put in
-    begins-first f (start .args .scratch .now) (start .args .at) (start .pre) (stored .last .0) (getD f (start .args .at .read) 0)
-    (c .before .before .before .before .before .before .if1 .left) (c .before .before .before .before .before .if2 .left) refl (stored .kept .0) (stored .ensures)
+    let at-put = c .before .before in
+    let not-end = at-put .before .before .before in
+    let none-open = not-end .before in
+    let entry = none-open .before .before .before .before in
+    let stored = at-put .put in
+    let a = entry .args in
+    begins-first (a .line .now) (a .scratch .now) (a .at) (entry .pre) (stored .last .0) (getD (a .line .now) (a .at .read) 0)
+    (none-open .if1 .left) (not-end .if2 .left) refl (stored .kept .0) (stored .ensures)
 
 pub open-first-spec : {M : Type 1} → statement M
 open-first-spec =

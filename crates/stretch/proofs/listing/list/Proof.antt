@@ -59,10 +59,10 @@ use Rattle.answer.proofs.Answer.Laws as Q′
 use Rattle.stretch.specs.declared.Stretch.{Stretch}
 use Rattle.stretch.specs.declared.Place.{Place}
 use Rattle.stretch.specs.declared.Step.{Step}
-use Rattle.stretch.specs.Generator.{Follows}
+use Rattle.stretch.specs.Generator.{coming, Follows}
 use Rattle.stretch.specs.Listing.{ListsLine}
 use Rattle.stretch.specs.Steps.{startOf, finished}
-use Rattle.stretch.proofs.Laying.{coming, listed, Laying, laying-start, laying-room, laying-less, laying-step, laying-end}
+use Rattle.stretch.proofs.Laying.{listed, Laying, laying-start, laying-room, laying-less, laying-step, laying-end}
 use Rattle.stretch.proofs.Again.{LentAgain, lends-again, comes-back}
 use Rattle.stretch.proofs.Stretch as T
 use Rattle.stretch.proofs.Stretch.Laws as T′

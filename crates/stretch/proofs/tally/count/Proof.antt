@@ -9,10 +9,12 @@ use Rattle.stretch.proofs.tally.count.Statement.{statement}
 use Rattle.stretch.proofs.tally.count.Tie as tie
 
 abbrev Inv-loop : tie.InvT-loop
-Inv-loop line levels₀ depth₀ total₀ read₀ levels depth total read = Going line levels depth total read
+Inv-loop line levels₀ depth₀ total₀ read₀ levels depth total read =
+    Going line levels depth total read
 
 abbrev μ-loop : tie.MeasureT-loop
-μ-loop line levels₀ depth₀ total₀ read₀ levels depth total read = 2 * (length line - read) + depth
+μ-loop line levels₀ depth₀ total₀ read₀ levels depth total read =
+    2 * (length line - read) + depth
 
 loop-holds : tie.Need-loop-holds Inv-loop μ-loop
 loop-holds c = going-start (c .args .line .now) _ refl
@@ -31,8 +33,10 @@ loop-less c = search needs
 
 loop-again : tie.Need-loop-again Inv-loop μ-loop
 loop-again c =
-    let f = c .before .before .before .before .args .line .now in
-    let l = c .before .before .before .loop in
+    let head = c .before .before .before in
+    let entry = head .before in
+    let f = entry .args .line .now in
+    let l = head .loop in
     going-first f (l .levels) (l .depth) (l .total) (l .read) (getD f (l .read) 0) (l .inv) (omega arith) refl (omega arith)
 
 sub-top : tie.Need-sub-top Inv-loop μ-loop
@@ -52,15 +56,22 @@ loop-less-2 c = search needs
 
 loop-again-2 : tie.Need-loop-again-2 Inv-loop μ-loop
 loop-again-2 c =
-    let f = c .before .before .before .before .before .args .line .now in
-    let l = c .before .before .before .before .loop in
+    let head = c .before .before .before .before in
+    let entry = head .before in
+    let f = entry .args .line .now in
+    let l = head .loop in
     going-pop f (l .levels) (l .depth) (l .total) (l .read) (getD f (l .read) 0) (l .inv) (omega arith) refl (λ e. omega arith) (omega arith)
 
 array-write-levels-2 : tie.Need-array-write-levels-2 Inv-loop μ-loop
 array-write-levels-2 c =
-    let f = c .before .before .before .before .before .before .args .line .now in
-    let l = c .before .before .before .before .before .loop in
-    going-room f (l .levels) (l .depth) (l .total) (l .read) (getD f (l .read) 0) (l .inv) (omega arith) refl (λ e. omega arith) (omega (arith, c .before .before .before .shared-slice-known .given (l .read))) (omega arith)
+    let at-byte = c .before .before .before in
+    let head = at-byte .before .before in
+    let entry = head .before in
+    let f = entry .args .line .now in
+    let l = head .loop in
+    let byte = at-byte .shared-slice-known .given (l .read) in
+    going-room f (l .levels) (l .depth) (l .total) (l .read) (getD f (l .read) 0) (l .inv) (omega arith) refl (λ e. omega arith)
+    (omega (arith, byte)) (omega arith)
 
 add-depth : tie.Need-add-depth Inv-loop μ-loop
 add-depth c = search needs
@@ -73,9 +84,14 @@ loop-less-3 c = search needs
 
 loop-again-3 : tie.Need-loop-again-3 Inv-loop μ-loop
 loop-again-3 c =
-    let f = c .before .before .before .before .before .before .args .line .now in
-    let l = c .before .before .before .before .before .loop in
-    going-push f (l .levels) (l .depth) (l .total) (l .read) (getD f (l .read) 0) (l .inv) (omega arith) refl (λ e. omega arith) (omega (arith, c .before .before .before .shared-slice-known .given (l .read))) (omega arith)
+    let at-byte = c .before .before .before in
+    let head = at-byte .before .before in
+    let entry = head .before in
+    let f = entry .args .line .now in
+    let l = head .loop in
+    let byte = at-byte .shared-slice-known .given (l .read) in
+    going-push f (l .levels) (l .depth) (l .total) (l .read) (getD f (l .read) 0) (l .inv) (omega arith) refl (λ e. omega arith)
+    (omega (arith, byte)) (omega arith)
 
 add-read-3 : tie.Need-add-read-3 Inv-loop μ-loop
 add-read-3 c = search needs
@@ -85,8 +101,10 @@ loop-less-4 c = search needs
 
 loop-again-4 : tie.Need-loop-again-4 Inv-loop μ-loop
 loop-again-4 c =
-    let f = c .before .before .before .before .before .before .args .line .now in
-    let l = c .before .before .before .before .before .loop in
+    let head = c .before .before .before .before .before in
+    let entry = head .before in
+    let f = entry .args .line .now in
+    let l = head .loop in
     going-same f (l .levels) (l .depth) (l .total) (l .read) (getD f (l .read) 0) (l .inv) (omega arith) refl (λ e. omega arith) (omega arith) (omega arith)
 
 add-result : tie.Need-add-result Inv-loop μ-loop
