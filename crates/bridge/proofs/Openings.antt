@@ -1,8 +1,9 @@
 -- The opening at a pixel is the greatest level among the listed stretches, at least as long as the window, that hold it.
 --   opened-at-stretches, opened-stretches
--- A stretch that reaches has a window that holds the pixel, no darker than the stretch; and a window that holds it lies in a stretch that reaches, at the window's level or above.
+-- A stretch that reaches has a window that holds the pixel, no darker than the stretch;
+-- and a window that holds it lies in a stretch that reaches, at the window's level or above.
 -- Assumes nothing.
-use mathlib.Core.Path.{_≡_, refl, sym, _∙_}
+use mathlib.Core.Path.{_≡_, refl, _∙_}
 use mathlib.Core.Bool.{Bool, true, false, _&&_, false≢true}
 use mathlib.Core.List.{List, [], _∷_, _++_}
 use Prim.Native.Nat.{ℕ, _+_, _-_, _≤_, _<_, min}
@@ -14,7 +15,6 @@ use borrow.Author.Tests.{leb-true, ltb-true, le-leb, lt-ltb}
 use Rattle.lists.specs.Tables.{keep}
 use Rattle.lists.specs.Extremes.{greatest}
 use Rattle.lists.proofs.Cases.{both, both-left, both-right}
-use Rattle.lists.proofs.Extremes.{greatest-append}
 use Rattle.line.specs.Windows.{darkest, openedAt, opened}
 use Rattle.line.proofs.Windows.{le-opened-at, opened-at-le, opened-at}
 use Rattle.stretch.specs.declared.Stretch.{Stretch}

@@ -20,7 +20,7 @@ use borrow.Author.Tests.{ltb-true, ltb-false, lt-ltb, le-ltb, leb-true, leb-fals
 use Rattle.lists.specs.Tables.{each, keep}
 use Rattle.lists.specs.Extremes.{greatest}
 use Rattle.stretch.specs.declared.Stretch.{Stretch}
-use Rattle.stretch.specs.Stretches.{before, behind, neighbours, darker, levelOf, isStretch, baseOf, stretchOf, endingAt, stretches}
+use Rattle.stretch.specs.Stretches.{before, behind, darker, levelOf, isStretch, baseOf, stretchOf, endingAt, stretches}
 use Rattle.stretch.specs.Reading.{Run, topLevel, topHolds, topBelow, ended, settled, opened, ending, todo}
 use Rattle.stretch.proofs.Levels.{level-one, level-down, level-up, level-part}
 

@@ -11,21 +11,21 @@
 use mathlib.Core.Path.{_≡_, refl, sym, ap, _∙_}
 use mathlib.Core.Bool.{Bool, true, false, cond, _&&_, true≢false, false≢true}
 use mathlib.Core.List.{List, [], _∷_}
-use Prim.Native.Nat.{ℕ, zero, suc, _+_, _-_, _*_, _≤_, _<_, max}
+use Prim.Native.Nat.{ℕ, suc, _+_, _-_, _*_, _≤_, _<_, max}
 use native.Mathlib.Nat.{le-refl}
 use native.Mathlib.Omega.{arith}
 use lib.Dec.{ltb, leb}
 use lib.ListN.{length, getD, drop, drop-of-length-le}
 use lib.Seq.{drop-cons}
 use borrow.Author.Tests.{leb-true, ltb-true, ltb-false, le-leb, lt-ltb}
-use Rattle.lists.proofs.Cases.{both, both-left, both-right}
+use Rattle.lists.proofs.Cases.{both-left, both-right}
 use Rattle.answer.specs.Limits.{longest}
 use Rattle.stretch.specs.declared.Stretch.{Stretch}
 use Rattle.stretch.specs.declared.Place.{Place}
 use Rattle.stretch.specs.declared.Step.{Step}
 use Rattle.stretch.specs.Stretches.{stretches}
 use Rattle.stretch.specs.Reading.{Run, topLevel, opened, ending, todo}
-use Rattle.stretch.specs.Generator.{pairAt, runAt, stackOf, toCome, coming, beginning, isReady, noStep, Follows}
+use Rattle.stretch.specs.Generator.{runAt, stackOf, toCome, coming, beginning, isReady, noStep, Follows}
 use Rattle.stretch.specs.Steps.{Ready, Begins, Closes, Ends, Climbs, fallen, Falls, Finds}
 use Rattle.stretch.proofs.Model.{todo-stretches}
 use Rattle.stretch.proofs.Stack.{stack-top, stack-below}

@@ -1,4 +1,5 @@
--- How the list is made in one reading of the line: the open runs are a stack, the latest start on top. A run is open where it has no end yet; its level is its darkest pixel so far.
+-- How the list is made in one reading of the line: the open runs are a stack, the latest start on top.
+-- A run is open where it has no end yet; its level is its darkest pixel so far.
 --   Run                  an open run: its start and its level
 --   topLevel rs          the level of the run on top; 0 where there is none
 --   topHolds v rs        there is a run on top, and its level is v or more

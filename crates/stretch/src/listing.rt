@@ -14,7 +14,8 @@ ghost use Rattle.stretch.specs.Stretches.{stretches};
 ghost use Rattle.stretch.specs.Listing.{listRules, ListsLine};
 ghost use Rattle.stretch.specs.Steps.{startOf, finished};
 
-// Rules 1, 7 and 8 for a line, with `room` entries of table and `spare` bytes of scratch. A line has no more stretches than pixels: they are counted where the table has fewer.
+// Rules 1, 7 and 8 for a line, with `room` entries of table and `spare` bytes of scratch.
+// A line has no more stretches than pixels, so they are counted only where the table has fewer entries.
 fn refusal(line: &[u8], room: usize, spare: usize) -> Answer
     ensures { λ r. ⌜ r ≡ answer (listRules (length (now (line .entry))) spare room (length (stretches (now (line .entry))))) 0 ⌝ }
 {

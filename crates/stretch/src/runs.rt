@@ -1,5 +1,5 @@
 // The open runs of a reading, as they lie in the lent scratch: a stack of four bytes a run, two of start, one of level and one free.
-// The level is one byte and is read as one: a byte that is read as half of a pair just stored waits for the store.
+// The level is stored and read as one byte: two bytes stored apart and read as a pair would make the reading wait.
 ghost use mathlib.Core.Path.{_≡_};
 ghost use mathlib.Core.List.{_∷_};
 ghost use Prim.Native.Nat.{suc, _+_, _*_, _≤_, _<_, max};
