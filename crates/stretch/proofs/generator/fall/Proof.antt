@@ -26,7 +26,8 @@ returns c =
     let entry = at-put .before .before .before .before .before .before in
     let stored = at-put .put in
     let a = entry .args in
-    falls-first (a .line .now) (a .scratch .now) (a .at) (a .start) (a .under) (entry .pre .0) (entry .pre .1) (stored .last .0) (stored .kept .0) (omega arith) (stored .ensures)
+    falls-first (a .line .now) (a .scratch .now) (a .at) (a .start) (a .under) (entry .pre .0) (entry .pre .1)
+    (stored .last .0) (stored .kept .0) (omega arith) (stored .ensures)
 
 put-requires-2 : tie.Need-put-requires-2
 put-requires-2 c κs = search needs
@@ -43,7 +44,8 @@ returns-2 c =
     let entry = at-put .before .before .before .before .before .before .before in
     let stored = at-put .put2 in
     let a = entry .args in
-    falls-low (a .line .now) (a .scratch .now) (a .at) (a .start) (a .under) (entry .pre .0) (entry .pre .1) (stored .last .0) (stored .kept .0) (omega arith) (stored .ensures)
+    falls-low (a .line .now) (a .scratch .now) (a .at) (a .start) (a .under) (entry .pre .0) (entry .pre .1)
+    (stored .last .0) (stored .kept .0) (omega arith) (stored .ensures)
 
 returns-3 : tie.Need-returns-3
 returns-3 c =

@@ -129,15 +129,12 @@ is-false : (t : Bool) → Holds (not t) → t ≡ false
 is-false true h = absurd h
 is-false false h = refl
 
--- the machine values of a stretch, a place and a step
+-- the machine values of a stretch and of a place
 abbrev stretch-val : Stretch → Val
 stretch-val s = only (LL.vals T.the-type T′.the-laws s)
 
 abbrev place-val : Place → Val
 place-val p = only (LL.vals P.the-type P′.the-laws p)
-
-abbrev step-val : Step → Val
-step-val r = only (LL.vals S.the-type S′.the-laws r)
 
 -- the contracts that the proof cites
 module _ {M : Type 1} (𝓤 : URA M) (H : Heap 𝓤) (A : Atoms 𝓤) (mem : Memory → SProp 𝓤) (run : Routine → Fun 𝓤) where
