@@ -204,11 +204,11 @@ none-held x b v (r ∷ rs) h = go (ltb v (r .level)) (leb (r .start) x) (none-he
     e = le-ltb x b h
 
     go : (t o : Bool) → holders x (ended b v rs) ≡ [] → holders x (cond t (closed r b (max v (topLevel rs)) ∷ ended b v rs) []) ≡ []
-    go true o ih = simp e (og (leb (r .start) x))
+    go true o ih = simp e (not-held (leb (r .start) x))
       where
-        og : (o : Bool) → keep (o && false) (closed r b (max v (topLevel rs))) ++ holders x (ended b v rs) ≡ []
-        og true = ih
-        og false = ih
+        not-held : (o : Bool) → keep (o && false) (closed r b (max v (topLevel rs))) ++ holders x (ended b v rs) ≡ []
+        not-held true = ih
+        not-held false = ih
     go false o ih = refl
 
 -- the run on top after a pixel v is at its level
@@ -218,11 +218,11 @@ new-top b v rs s = go (settled v rs) (settled-top v rs) (stack-settled b v rs s)
   where
     go : (ss : List Run) → topLevel ss ≤ v → Stack b ss → innerLevel b (opened b v ss) ≡ v
     go [] h s = rw (le-leb b b (le-refl b))
-    go (r ∷ ss) h s = og (ltb (r .level) v) refl
+    go (r ∷ ss) h s = by-level (ltb (r .level) v) refl
       where
-        og : (t : Bool) → ltb (r .level) v ≡ t → innerLevel b (cond t (record { start = b; level = v } ∷ (r ∷ ss)) (r ∷ ss)) ≡ v
-        og true t = rw (le-leb b b (le-refl b))
-        og false t =
+        by-level : (t : Bool) → ltb (r .level) v ≡ t → innerLevel b (cond t (record { start = b; level = v } ∷ (r ∷ ss)) (r ∷ ss)) ≡ v
+        by-level true t = rw (le-leb b b (le-refl b))
+        by-level false t =
             let q : leb (r .start) b ≡ true = le-leb (r .start) b (omega (arith, s .0)) in
             rw q (omega (arith, ltb-false (r .level) v t))
 

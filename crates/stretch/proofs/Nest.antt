@@ -148,17 +148,17 @@ module _ (f : List ℕ) where
 
   -- a stretch that shares a run with a brighter one encloses it
   within : (a b c d x y : ℕ) → a < b → d ≤ length f → c ≤ a → b ≤ d → x ≤ a → b ≤ y → levelOf f x y ≤ levelOf f c d → Bright f x y → (x ≤ c) × (d ≤ y)
-  within a b c d x y h n p q i j l t = (go (leb x c) refl, og (leb d y) refl)
+  within a b c d x y h n p q i j l t = (starts (leb x c) refl, ends (leb d y) refl)
     where
-      go : (u : Bool) → leb x c ≡ u → x ≤ c
-      go true u = leb-true x c u
-      go false u =
+      starts : (u : Bool) → leb x c ≡ u → x ≤ c
+      starts true u = leb-true x c u
+      starts false u =
           let k : c < x = leb-false x c u in
           absurd (omega (arith, level-pixel f c d (x - 1) (omega arith) (omega arith) n, t .left (x - 1) (omega arith)))
 
-      og : (u : Bool) → leb d y ≡ u → d ≤ y
-      og true u = leb-true d y u
-      og false u =
+      ends : (u : Bool) → leb d y ≡ u → d ≤ y
+      ends true u = leb-true d y u
+      ends false u =
           let k : y < d = leb-false d y u in
           absurd (omega (arith, level-pixel f c d y (omega arith) k n, t .right (omega arith)))
 
@@ -181,13 +181,13 @@ module _ (f : List ℕ) where
   -- the base of a stretch that is not the whole line is the level of the shortest other that encloses it
   pub base-encloser : (a b : ℕ) → Bright f a b → b - a < length f → (c : ℕ) × (d : ℕ) × Encloser a b c d × (levelOf f c d ≡ baseOf f a b)
   unfolding Wider
-  base-encloser a b s h = go (wider a b s h)
+  base-encloser a b s h = around (wider a b s h)
     where
-      go : Wider a b (baseOf f a b) → (c : ℕ) × (d : ℕ) × Encloser a b c d × (levelOf f c d ≡ baseOf f a b)
-      go p = og (extend f (p .0) (p .1) (baseOf f a b) (omega (arith, p .2, p .3, s .some)) (p .4) (omega (arith, p .6)))
+      around : Wider a b (baseOf f a b) → (c : ℕ) × (d : ℕ) × Encloser a b c d × (levelOf f c d ≡ baseOf f a b)
+      around p = found (extend f (p .0) (p .1) (baseOf f a b) (omega (arith, p .2, p .3, s .some)) (p .4) (omega (arith, p .6)))
         where
-          og : Around f (p .0) (p .1) (baseOf f a b) → (c : ℕ) × (d : ℕ) × Encloser a b c d × (levelOf f c d ≡ baseOf f a b)
-          og x = (
+          found : Around f (p .0) (p .1) (baseOf f a b) → (c : ℕ) × (d : ℕ) × Encloser a b c d × (levelOf f c d ≡ baseOf f a b)
+          found x = (
             x .from,
             x .to,
             encloses a b s (p .0) (p .1) (p .2) (p .3) (p .5) x,
