@@ -1,13 +1,15 @@
 -- The least, the greatest and the total of a list, by their bounds.
 --   least-le, le-least              the least is below each number, and above whatever is below each
+--   least-cons, least-snoc          the least of a list with one number more, at its front or at its end
 --   le-those, those-le              the greatest of those values that a test picks, likewise
 --   total-append, total-table       the total of two lists, and of a table one value longer
+--   total-add, total-zero           the total of a table of sums, and of zeros
 -- Assumes nothing.
 use mathlib.Core.Path.{_≡_, refl, sym, ap, _∙_}
 use mathlib.Core.Bool.{Bool, true, false, false≢true}
 use mathlib.Core.List.{List, [], _∷_, _++_}
 use mathlib.Core.Logic.{⊎-elim}
-use Prim.Native.Nat.{ℕ, zero, suc, _+_, _≤_, _<_, max, zero-le, suc-le-suc}
+use Prim.Native.Nat.{ℕ, zero, suc, _+_, _≤_, _<_, min, max, zero-le, suc-le-suc}
 use native.Mathlib.Nat.{not-suc-le-zero, le-of-suc-le-suc, eq-or-lt-of-le, le-refl, le-trans, min-le-left, min-le-right, le-min, le-max-left, le-max-right, max-le}
 use native.Mathlib.Omega.{arith}
 use lib.ListN.{length, getD}
@@ -29,6 +31,17 @@ unfolding least
 le-least k [] h a = absurd (not-suc-le-zero h)
 le-least k (x ∷ []) h a = a 0 h
 le-least k (x ∷ (y ∷ ys)) h a = le-min (a 0 (omega arith)) (le-least k (y ∷ ys) (omega arith) (λ j l. a (suc j) (suc-le-suc l)))
+
+pub least-cons : (x : ℕ) (xs : List ℕ) → 0 < length xs → least (x ∷ xs) ≡ min x (least xs)
+unfolding least
+least-cons x [] h = absurd (not-suc-le-zero h)
+least-cons x (y ∷ ys) h = refl
+
+pub least-snoc : (xs : List ℕ) (v : ℕ) → 0 < length xs → least (xs ++ (v ∷ [])) ≡ min (least xs) v
+unfolding least
+least-snoc [] v h = absurd (not-suc-le-zero h)
+least-snoc (x ∷ []) v h = refl
+least-snoc (x ∷ (y ∷ ys)) v h = omega (arith, least-snoc (y ∷ ys) v (omega arith))
 
 -- ---- the greatest
 
@@ -75,3 +88,13 @@ total-append (x ∷ s) t = omega (arith, total-append s t)
 pub total-table : (g : ℕ → ℕ) (n : ℕ) → total (table g (suc n)) ≡ total (table g n) + g n
 unfolding each total
 total-table g n = total-append (table g n) (g n ∷ []) ∙ omega arith
+
+pub total-add : (g h : ℕ → ℕ) (n : ℕ) → total (table (λ (i : ℕ). g i + h i) n) ≡ total (table g n) + total (table h n)
+unfolding each total
+total-add g h zero = refl
+total-add g h (suc n) = omega (arith, total-table (λ (i : ℕ). g i + h i) n, total-table g n, total-table h n, total-add g h n)
+
+pub total-zero : (n : ℕ) → total (table (λ (i : ℕ). 0) n) ≡ 0
+unfolding each total
+total-zero zero = refl
+total-zero (suc n) = omega (arith, total-table (λ (i : ℕ). 0) n, total-zero n)

@@ -4,15 +4,16 @@
 --   filled-join, filled-join-before one stretch behind another, or before it
 --   filled-end, filled-start, filled-as    the same stretch, its ends and values known by equations
 --   filled-whole, filled-copy, filled-front    what a filled list is
+--   front-length, front-more        values at the front: the length stays, and one value more is one store
 -- Assumes nothing.
 use mathlib.Core.Path.{_≡_, refl, sym, _∙_, subst}
-use mathlib.Core.List.{List, _++_}
+use mathlib.Core.List.{List, [], _∷_, _++_, append-assoc}
 use mathlib.Core.Logic.{⊎-elim}
-use Prim.Native.Nat.{ℕ, _+_, _-_, _≤_, _<_, zero-le}
+use Prim.Native.Nat.{ℕ, suc, _+_, _-_, _≤_, _<_, zero-le}
 use native.Mathlib.Nat.{eq-or-lt-of-le}
 use native.Mathlib.Omega.{arith}
 use lib.ListN.{length, getD, set, drop, length-set, length-append, length-drop, List·getD-append}
-use lib.Seq.{getD-set-same, getD-set-other, getD-append-add, getD-drop, ext-getD}
+use lib.Seq.{drop-cons, set-append-seam, getD-set-same, getD-set-other, getD-append-add, getD-drop, ext-getD}
 use Rattle.lists.specs.Tables.{table}
 use Rattle.lists.specs.Stores.{Filled, front}
 use Rattle.lists.proofs.Cases.{less-or-not}
@@ -111,3 +112,14 @@ filled-front {d} {a} {hi} vs f e fit =
     getD-append-add vs (drop (length vs) d) (k - length vs) 0 ∙ getD-drop (length vs) d (k - length vs) 0 in
     f .above k q ∙ sym (rw s at r))
     (less-or-not k hi))
+
+-- ---- values at the front
+
+module _ {A : Type 0} (d : List A) where
+  pub front-length : (vs : List A) → length vs ≤ length d → length (front vs d) ≡ length d
+  front-length vs fit = omega (arith, length-append vs (drop (length vs) d), length-drop (length vs) d)
+
+  pub front-more : (vs : List A) (v : A) → length vs < length d → set (front vs d) (length vs) v ≡ front (vs ++ (v ∷ [])) d
+  front-more vs v fit =
+      let n : length (vs ++ (v ∷ [])) ≡ suc (length vs) = length-append vs (v ∷ []) ∙ omega arith in
+      rw (drop-cons d (length vs) v fit, set-append-seam, n, append-assoc)
