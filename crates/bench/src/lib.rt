@@ -1,5 +1,10 @@
 // The calls that the benchmark (bench/) measures, each under a name that C can link. The product's own entry for C is another (include/).
 use answer::Answer;
+use frame::Direction;
+use frame::Shape;
+ghost use Rattle.frame.specs.Direction.{dir};
+ghost use Rattle.frame.specs.Shape.{shape};
+ghost use Rattle.frame.specs.Gathering.{Gathers};
 ghost use Rattle.line.specs.Erosion.{ErodesLine};
 ghost use Rattle.line.specs.Dilation.{DilatesLine};
 ghost use Rattle.line.specs.Opening.{OpensLine};
@@ -28,4 +33,25 @@ pub extern "C" fn bench_open_line(
     ensures { λ r. ⌜ OpensLine (now (src .entry)) length (now (dst .entry)) (now (dst .exit)) (now (scratch .entry)) (now (scratch .exit)) r ⌝ }
 {
     line::open_line(src, length, dst, scratch)
+}
+
+#[no_mangle]
+pub extern "C" fn bench_gather(
+    src: &[u8],
+    width: usize,
+    height: usize,
+    stride: usize,
+    p: i64,
+    q: i64,
+    line: i64,
+    dst: &mut [u8],
+) -> Answer
+    ensures { λ r. ⌜ Gathers (now (src .entry)) (shape width height stride) (dir p q) line (now (dst .entry)) (now (dst .exit)) r ⌝ }
+{
+    let shape = Shape {
+        width,
+        height,
+        stride,
+    };
+    frame::gather(src, shape, Direction { p, q }, line, dst)
 }

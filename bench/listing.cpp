@@ -1,0 +1,48 @@
+// The list of bright stretches of 1,024 lines of 1,024 pixels, beside plain C of the same stack algorithm.
+// Every list is compared before it is timed; a difference, or a ratio above the target, makes the exit status 1.
+#include "library.h"
+#include "peers/listing.h"
+#include "picture.h"
+#include "timing.h"
+#include <cstdio>
+#include <cstring>
+
+static const long N = 1024;
+static const double TARGET = 1.3;
+
+static bool agree(const Picture &picture, Stretch *ours, struct stretch *theirs, Picture &scratch)
+{
+    for (long y = 0; y < N; y++) {
+        Answer a = list(&picture[y * N], N, ours, N, scratch.data(), scratch.size());
+        size_t count = stack_list(&picture[y * N], N, theirs);
+        if (a.number != 0 || a.figure != count || std::memcmp(ours, theirs, count * sizeof *ours) != 0)
+            return false;
+    }
+    return true;
+}
+
+int main()
+{
+    Picture noise(N * N), scratch(8 * N);
+    std::mt19937 random(2);
+    for (auto &pixel : noise)
+        pixel = random();
+    struct Case {
+        const char *name;
+        Picture picture;
+    } cases[] = {{"blurred", blurred_noise(N, N)}, {"noise", noise}};
+    static Stretch ours[N];
+    static struct stretch theirs[N];
+    bool good = true;
+    std::printf("\nStretches: %ld lines of %ld pixels, nanoseconds a pixel, best of 15\n%10s %10s %12s %8s\n", N, N, "picture", "list", "stack in C", "times C");
+    for (Case &c : cases) {
+        bool same = agree(c.picture, ours, theirs, scratch);
+        double pixels = double(N) * N;
+        double o = nanoseconds_a_pixel(pixels, 15, [&] { for (long y = 0; y < N; y++) list(&c.picture[y * N], N, ours, N, scratch.data(), scratch.size()); });
+        double t = nanoseconds_a_pixel(pixels, 15, [&] { for (long y = 0; y < N; y++) stack_list(&c.picture[y * N], N, theirs); });
+        std::printf("%10s %10.2f %12.2f %8.2f%s\n", c.name, o, t, o / t, same ? "" : "  LISTS DIFFER");
+        good = good && same && o <= TARGET * t;
+    }
+    std::printf("list is to take at most %.1f times as long as C: %s\n", TARGET, good ? "met" : "NOT MET");
+    return good ? 0 : 1;
+}
