@@ -4,7 +4,7 @@
 --   after a new old    what a lent buffer holds after a call with the answer a: new where it is done, old where it is refused
 --   outside lo hi n    n is below lo or above hi
 -- Laws: answer/proofs/Rules.
-use mathlib.Core.Bool.{Bool, true, false, cond, _||_}
+use mathlib.Core.Bool.{Bool, cond, _||_}
 use mathlib.Core.List.{List, [], _∷_}
 use Prim.Native.Nat.{ℕ, zero, suc}
 use lib.Dec.{ltb}

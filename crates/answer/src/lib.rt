@@ -1,6 +1,5 @@
 // What a numbered call hands back, the limits that the rules name, and the tests that more than one call's rules make.
 ghost use mathlib.Core.Path.{_≡_};
-ghost use Prim.Native.Nat.{ℕ};
 ghost use Rattle.answer.specs.Rules.{done, refusal, outside};
 
 // The most pixels of a side, of a line and of a length, and the most bins of a size sum.

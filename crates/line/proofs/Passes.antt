@@ -7,7 +7,7 @@
 --   eroded-passes, dilated-passes, opened-passes    what the passes of each leave
 --   opened-at-eroded                a value of the opening is that of the dilation of the erosion
 -- Assumes nothing.
-use mathlib.Core.Path.{_≡_, refl, sym, ap, _∙_, subst}
+use mathlib.Core.Path.{_≡_, sym, _∙_}
 use mathlib.Core.List.{List}
 use mathlib.Core.Logic.{⊎-elim}
 use Prim.Native.Nat.{ℕ, _+_, _-_, _≤_, _<_, min, max, zero-le}
@@ -69,14 +69,14 @@ eroded-passes {d} {a} {e} {x} {y} f {L} {m} {n} copy er back mf df nx count =
 
 -- ---- dilation
 
-dilated-at-one : (e : List ℕ) (x : ℕ) → x < length e → dilatedAt e 1 x ≡ getD e x 0
+pub dilated-at-one : (e : List ℕ) (x : ℕ) → x < length e → dilatedAt e 1 x ≡ getD e x 0
 dilated-at-one e x h =
     le-antisymm
     (dilated-at-le e 1 x (getD e x 0) (λ i l lo hi. let q : i ≡ x = omega arith in rw q (le-refl (getD e x 0))))
     (le-dilated-at e 1 x x h (le-refl x) (omega arith))
 
 -- the first s values stay as they are
-dilated-at-front : (e : List ℕ) (w s x : ℕ) → s ≤ w → x < s → dilatedAt e (w + s) x ≡ dilatedAt e w x
+pub dilated-at-front : (e : List ℕ) (w s x : ℕ) → s ≤ w → x < s → dilatedAt e (w + s) x ≡ dilatedAt e w x
 dilated-at-front e w s x small near =
     le-antisymm
     (dilated-at-le e (w + s) x (dilatedAt e w x) (λ i l lo hi. le-dilated-at e w x i l lo (omega arith)))

@@ -14,7 +14,7 @@ use Prim.Native.Nat.{ℕ, _+_, _-_, _*_, _/_, _≤_, _<_, min, max, zero-le}
 use native.Mathlib.Nat.{mul-le-mul-left, mul-add, mul-one, mul-zero, le-div-iff-mul-le, div-lt-iff-lt-mul}
 use native.Mathlib.Omega.{arith}
 use lib.ListN.{length, getD, take, drop, length-append, length-drop, List·getD-eq-default, List·getD-append}
-use lib.Seq.{length-take-le, getD-take, getD-drop, getD-append-add}
+use lib.Seq.{getD-take, getD-drop, getD-append-add}
 use Rattle.lists.specs.Tables.{each}
 use Rattle.lists.specs.Stores.{Filled}
 use Rattle.lists.proofs.Cases.{less-or-not}

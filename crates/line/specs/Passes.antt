@@ -1,13 +1,18 @@
 -- What the private passes keep to. A pass goes over a whole buffer; c lines of n pixels stand in it interleaved (Lanes).
 --   narrowed b d k        number k of b, or the one d behind it: the lesser
 --   widened b d k         number k of b, or the one d before it: the greater
+--   erodedTo f w i        the darkest pixel of the window of w from i on; 0 where it leaves the line
+--   reopened f L w x      the greatest of these, for windows of L, at the w places up to x
 --   Erodes, Dilates       a list begins with the values of an erosion, or of a dilation
 --   ErodesLanes, DilatesLanes    the same of every line of a buffer
--- Laws: line/proofs/Passes, Blocks, Strides.
+-- Laws: line/proofs/Passes, Blocks, Strides, Rims.
 use mathlib.Core.Path.{_≡_}
+use mathlib.Core.Bool.{cond}
 use mathlib.Core.List.{List}
 use Prim.Native.Nat.{ℕ, _+_, _-_, _≤_, _<_, min, max}
+use lib.Dec.{leb}
 use lib.ListN.{length, getD}
+use Rattle.lists.specs.Tables.{table}
 use Rattle.line.specs.Windows.{darkest, dilatedAt}
 use Rattle.line.specs.Lanes.{lane}
 
@@ -16,6 +21,12 @@ narrowed b d k = min (getD b k 0) (getD b (k + d) 0)
 
 abbrev pub widened : List ℕ → ℕ → ℕ → ℕ
 widened b d k = max (getD b k 0) (getD b (k - d) 0)
+
+unfoldable pub erodedTo : List ℕ → ℕ → ℕ → ℕ
+erodedTo f w i = cond (leb (i + w) (length f)) (darkest f i w) 0
+
+unfoldable pub reopened : List ℕ → ℕ → ℕ → ℕ → ℕ
+reopened f L w x = dilatedAt (table (erodedTo f L) (length f)) w x
 
 -- a begins with the values of the erosion of f by windows of w pixels
 pub record Erodes (f : List ℕ) (w : ℕ) (a : List ℕ) : Type 0 where

@@ -7,11 +7,13 @@ ghost use lib.ListN;
 ghost use Rattle.line.specs.Lanes.{OpensLanes, OpensFront};
 ghost use Rattle.line.specs.Passes.{ErodesLanes, DilatesLanes};
 
-// How much longer the windows may get in the next pass: to twice their length w, and at most to `length`.
-fn growth(w: usize, length: usize) -> usize
-    requires { ⌜ w ≤ length ⌝ }
+// How much longer windows of w pixels may get in one pass on their way to `length`: to twice their length, and at most to `length`.
+pub fn growth(w: usize, length: usize) -> usize
     ensures { λ r. ⌜ r ≡ min w (length - w) ⌝ }
 {
+    if length < w {
+        return 0;
+    }
     let left = length - w;
     if w < left { w } else { left }
 }

@@ -4,9 +4,14 @@ mod dilation;
 mod erosion;
 mod lanes;
 mod opening;
+mod part;
 mod pass;
 
 pub use dilation::dilate;
 pub use erosion::erode;
+pub use lanes::growth;
 pub use lanes::open_lanes;
 pub use opening::open_line;
+pub use part::blacken;
+pub use part::brighten;
+pub use part::darken;

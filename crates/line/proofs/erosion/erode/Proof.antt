@@ -1,12 +1,11 @@
 -- The rules, and then no value, or the erosion in the part of the destination that has room for just its values.
-use mathlib.Core.Path.{_≡_, sym, ap, _∙_}
-use mathlib.Core.List.{List, _++_}
-use Prim.Native.Nat.{ℕ, _+_, _-_}
+use mathlib.Core.Path.{_≡_, sym, _∙_}
+use Prim.Native.Nat.{_+_, _-_}
 use native.Mathlib.Omega.{arith}
-use lib.ListN.{length, drop}
+use lib.ListN.{length}
 use lib.Seq.{length-take-le}
 use Rattle.answer.proofs.Rules.{after-refused, front-done, front-none}
-use Rattle.line.specs.Windows.{eroded, erodedCount}
+use Rattle.line.specs.Windows.{eroded}
 use Rattle.line.proofs.Windows.{eroded-length}
 use Rattle.line.proofs.Calls.{erosion-fits}
 use borrow.Author.Needs.{needs}

@@ -1,6 +1,6 @@
 -- The first i bytes are copied.
 use mathlib.Core.Path.{refl}
-use Prim.Native.Nat.{ℕ, _-_, _≤_, zero-le}
+use Prim.Native.Nat.{ℕ, _-_, _≤_}
 use native.Mathlib.Omega.{arith}
 use lib.ListN.{getD}
 use Rattle.lists.specs.Stores.{Filled}

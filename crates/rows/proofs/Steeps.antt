@@ -1,0 +1,45 @@
+-- What `open_steep` leaves, by its tests.
+--   steep-kept      one of the tests fails: nothing changes
+--   steep-down      all pass: the lines go down the rows
+--   steep-done      and every line is opened
+-- Assumes nothing.
+use mathlib.Core.Path.{_≡_, refl, sym, _∙_}
+use mathlib.Core.Bool.{true, false, cond, true≢false}
+use mathlib.Core.List.{List}
+use Prim.Native.Nat.{ℕ, _≤_}
+use lib.ListN.{length}
+use borrow.Author.Tests.{le-leb}
+use Rattle.frame.specs.declared.direction.Direction.{Direction}
+use Rattle.frame.specs.declared.shape.Shape.{Shape}
+use Rattle.frame.specs.Direction.{shallow}
+use Rattle.frame.specs.Shape.{isFrame, needed}
+use Rattle.frame.specs.Sweep as sweep
+use Rattle.frame.specs.Sweep.{sweepOf, shift, Accepted}
+use Rattle.frame.proofs.Shapes.{framed, sweep-sane}
+use Rattle.rows.specs.Rows.{OpensRows, opensSteep, OpensSteep}
+use Rattle.rows.specs.Passes.{Down}
+
+pub steep-kept : (sh : Shape) (d : Direction) (L : ℕ) (g : List ℕ) → opensSteep sh d L g ≡ false → OpensSteep sh d L g g
+steep-kept sh d L g no′ = record { done = λ yes′. absurd (true≢false (sym yes′ ∙ no′)); none = λ e. refl }
+
+pub bytes-needed : {sh : Shape} {d : Direction} {n : ℕ} → Accepted sh d → n ≡ cond (isFrame sh) (needed sh) 0 → n ≡ needed sh
+bytes-needed a e = rw (a .frame) at e
+
+module _ {sh : Shape} {d : Direction} (a : Accepted sh d) (steep : shallow d ≡ false) where
+  pub steep-down : (g : List ℕ) → needed sh ≤ length g → Down (sweepOf sh d) g
+  unfolding sweep.sweepOf
+  steep-down g room =
+      let sane = sweep-sane a in
+      let f = framed sh (a .frame) in
+      record { sane = sane; apart = rw steep (f .past); room = rw steep room }
+
+  pub steep-done : (L : ℕ) (g g′ : List ℕ) → 1 ≤ L → needed sh ≤ length g
+      → OpensRows (shift (sweepOf sh d)) (sweepOf sh d .major) (sweepOf sh d .minors) (sweepOf sh d .majors) L g g′ → OpensSteep sh d L g g′
+  steep-done L g g′ some room o =
+      record {
+        done = λ e. o;
+        none = λ e. absurd (true≢false (sym all ∙ e));
+      }
+    where
+      all : opensSteep sh d L g ≡ true
+      all = rw (a .frame, a .direction, steep, le-leb 1 L some, le-leb (needed sh) (length g) room)

@@ -1,0 +1,70 @@
+-- The frame holds its lines dilated by windows of w pixels.
+use mathlib.Core.Path.{_≡_, _∙_, refl}
+use Prim.Native.Nat.{_-_, _≤_}
+use native.Mathlib.Omega.{arith}
+use lib.ListN
+use Rattle.frame.specs.Sweep.{shift}
+use Rattle.rows.specs.Passes.{DilatesDown}
+use Rattle.rows.proofs.Downs.{dilated-start, dilated-step, dilates-end}
+use borrow.Author.Needs.{needs}
+use Rattle.rows.proofs.open.dilate_down.Statement.{statement}
+use Rattle.rows.proofs.open.dilate_down.Tie as tie
+
+abbrev Inv-loop : tie.InvT-loop
+Inv-loop buf₀ s length w₀ buf w = (lib.ListN.length buf ≡ lib.ListN.length buf₀) × (1 ≤ w) × (w ≤ length) × DilatesDown s length w buf₀ buf
+
+abbrev μ-loop : tie.MeasureT-loop
+μ-loop buf₀ s length w₀ buf w = length - w
+
+loop-holds : tie.Need-loop-holds Inv-loop μ-loop
+loop-holds c = (refl, search needs, search needs, record { rows = λ f e. dilated-start _ _ _ _ f _ (e .rows) })
+
+growth-requires : tie.Need-growth-requires Inv-loop μ-loop
+growth-requires c κs = search needs
+
+dilate-rows-requires : tie.Need-dilate-rows-requires Inv-loop μ-loop
+dilate-rows-requires c κs =
+    let down = c .before .before .before .before .before .pre .0 in
+    let at = c .before .before .before .loop in
+    (record { sane = down .sane; apart = down .apart; room = omega (arith, down .room, at .inv .0) }, omega (arith, at .inv, c .before .growth .ensures, c .before .before .loop-test .taken), omega (arith, c .before .before .before .before .before .pre, at .inv, c .before .growth .ensures))
+
+add-w : tie.Need-add-w Inv-loop μ-loop
+add-w c = search needs
+
+loop-less : tie.Need-loop-less Inv-loop μ-loop
+loop-less c = search needs
+
+loop-again : tie.Need-loop-again Inv-loop μ-loop
+loop-again c =
+    let s = c .before .before .before .before .before .before .before .before .args .s in
+    let length = c .before .before .before .before .before .before .before .before .args .length in
+    let pre = c .before .before .before .before .before .before .before .before .pre in
+    let at = c .before .before .before .before .before .before .loop in
+    let grown = c .before .before .before .before .growth in
+    let pass = c .before .before .dilate-rows in (
+      pass .kept .0 ∙ at .inv .0,
+      omega (arith, at .inv),
+      omega (arith, at .inv, grown .ensures),
+      record { rows = λ f e. dilated-step (shift s) (s .major) (s .minors) (s .majors) f length (at .w) (grown .result) (pre .0 .apart) (at .inv .3 .rows f e) (pass .ensures) (omega (arith, at .inv)) (omega (arith, grown .ensures)) },
+    )
+
+same-length : tie.Need-same-length Inv-loop μ-loop
+same-length c = c .before .loop .inv .0
+
+returns : tie.Need-returns Inv-loop μ-loop
+returns c = dilates-end (c .before .loop .inv .3) (omega arith)
+
+pub dilate-down-spec : {M : Type 1} → statement M
+dilate-down-spec =
+    tie.close
+    (tie.spec
+    Inv-loop
+    μ-loop
+    loop-holds
+    growth-requires
+    dilate-rows-requires
+    add-w
+    loop-less
+    loop-again
+    same-length
+    returns)

@@ -1,0 +1,50 @@
+-- No window fits, or the erosion and then the dilation of that.
+use native.Mathlib.Omega.{arith}
+use Rattle.frame.specs.Sweep.{shift}
+use Rattle.rows.proofs.Downs.{opened-none, dilated-end}
+use borrow.Author.Needs.{needs}
+use Rattle.rows.proofs.open.open_down.Statement.{statement}
+use Rattle.rows.proofs.open.open_down.Tie as tie
+
+clear-rows-requires : tie.Need-clear-rows-requires
+clear-rows-requires c κs = search needs
+
+same-length : tie.Need-same-length
+same-length c = search needs
+
+returns : tie.Need-returns
+returns c =
+    let s = c .before .before .before .before .before .before .before .args .s in
+    let length = c .before .before .before .before .before .before .before .args .length in
+    opened-none (shift s) (s .major) (s .minors) (s .majors) _ length (c .before .before .before .before .if1 .taken) (c .before .before .clear-rows .ensures)
+
+erode-down-requires : tie.Need-erode-down-requires
+erode-down-requires c κs = search needs
+
+dilate-down-requires : tie.Need-dilate-down-requires
+dilate-down-requires c κs =
+    let down = c .before .before .before .before .before .before .before .before .pre .0 in
+    let eroded = c .before .before .before .erode-down in
+    (record { sane = down .sane; apart = down .apart; room = omega (arith, down .room, eroded .kept .0) }, omega arith, omega arith)
+
+same-length-2 : tie.Need-same-length-2
+same-length-2 c = search needs
+
+returns-2 : tie.Need-returns-2
+returns-2 c =
+    let s = c .before .before .before .before .before .before .before .before .before .before .before .args .s in
+    let length = c .before .before .before .before .before .before .before .before .before .before .before .args .length in
+    let buf = c .before .before .before .before .before .before .before .before .before .before .before .args .buf .now in
+    dilated-end (shift s) (s .major) (s .minors) (s .majors) buf length (c .before .before .before .before .before .before .before .before .before .before .before .pre .1) (c .before .before .dilate-down .ensures .rows buf (c .before .before .before .before .before .before .erode-down .ensures))
+
+pub open-down-spec : {M : Type 1} → statement M
+open-down-spec =
+    tie.close
+    (tie.spec
+    clear-rows-requires
+    same-length
+    returns
+    erode-down-requires
+    dilate-down-requires
+    same-length-2
+    returns-2)

@@ -1,0 +1,70 @@
+// The opening of a frame whose lines go down its rows, in place: the windows' length doubles from one pass to the next.
+use crate::pass::clear_rows;
+use crate::pass::dilate_rows;
+use crate::pass::erode_rows;
+use frame::Direction;
+use frame::Shape;
+use frame::Sweep;
+ghost use Prim.Native.Nat.{_≤_};
+ghost use Rattle.frame.specs.Sweep.{shift};
+ghost use Rattle.rows.specs.Rows.{OpensRows, OpensSteep};
+ghost use Rattle.rows.specs.Passes.{Down, ErodesDown, DilatesDown};
+
+fn erode_down(buf: &mut [u8], s: Sweep, length: usize)
+    requires { ⌜ Down s (now buf) × (1 ≤ length) × (length ≤ s .majors) ⌝ }
+    ensures { λ _. ⌜ ErodesDown s length (now (buf .entry)) (now (buf .exit)) ⌝ }
+{
+    let mut w = 1;
+    while w < length {
+        let e = line::growth(w, length);
+        erode_rows(buf, s, e);
+        w += e;
+    }
+}
+
+// From the erosion of any frame to its opening.
+fn dilate_down(buf: &mut [u8], s: Sweep, length: usize)
+    requires { ⌜ Down s (now buf) × (1 ≤ length) × (length ≤ s .majors) ⌝ }
+    ensures { λ _. ⌜ DilatesDown s length length (now (buf .entry)) (now (buf .exit)) ⌝ }
+{
+    let mut w = 1;
+    while w < length {
+        let e = line::growth(w, length);
+        dilate_rows(buf, s, e);
+        w += e;
+    }
+}
+
+fn open_down(buf: &mut [u8], s: Sweep, length: usize)
+    requires { ⌜ Down s (now buf) × (1 ≤ length) ⌝ }
+    ensures { λ _. ⌜ OpensRows (shift s) (s .major) (s .minors) (s .majors) length (now (buf .entry)) (now (buf .exit)) ⌝ }
+{
+    if s.majors < length {
+        clear_rows(buf, s, 0);
+        return;
+    }
+    erode_down(buf, s, length);
+    dilate_down(buf, s, length);
+}
+
+// Opens the frame that stands in buf in a steep direction. Where rule 1, 2, 3 or 5 would refuse, or the direction is shallow, nothing changes.
+pub fn open_steep(buf: &mut [u8], shape: Shape, d: Direction, length: usize)
+    ensures { λ _. ⌜ OpensSteep shape d length (now (buf .entry)) (now (buf .exit)) ⌝ }
+{
+    if !shape.is_frame() {
+        return;
+    }
+    if !d.is_direction() {
+        return;
+    }
+    if d.is_shallow() {
+        return;
+    }
+    if length < 1 {
+        return;
+    }
+    if buf.len() < shape.bytes() {
+        return;
+    }
+    open_down(buf, frame::sweep_of(shape, d), length);
+}

@@ -1,0 +1,86 @@
+// A pass over all rows, for a sweep whose lines go down them: from the windows of one length to those that are e pixels longer.
+use crate::row::dilate_row;
+use crate::row::erode_row;
+use frame::Sweep;
+ghost use mathlib.Core.Path.{_≡_};
+ghost use Prim.Native.Nat.{ℕ, _+_, _-_, _*_, _≤_, _<_};
+ghost use Rattle.frame.specs.Lines.{r};
+ghost use Rattle.frame.specs.Sweep.{shift, Sane};
+ghost use Rattle.rows.specs.Rows.{RowsAre};
+ghost use Rattle.rows.specs.Passes.{Down, eroding, dilating};
+
+// How many columns the lines have moved aside at row i.
+fn moved(run: usize, rise: usize, i: usize) -> usize
+    requires { ⌜ (1 ≤ run) × (run ≤ 255) × (rise ≤ run) × (i ≤ 4096) ⌝ }
+    ensures { λ n. ⌜ n ≡ r run rise i ⌝ }
+{
+    (2 * i * rise + run) / (2 * run)
+}
+
+// How far aside the lines stand at row i.
+fn aside(s: Sweep, i: usize) -> usize
+    requires { ⌜ Sane s × (i < s .majors) ⌝ }
+    ensures { λ t. ⌜ (t ≡ shift s i) × (t ≤ 8192) ⌝ }
+{
+    let falling = s.falling;
+    let n = moved(s.run, s.rise, i);
+    if falling { n } else { s.top - n }
+}
+
+// The rows whose lines go on e rows further down.
+fn erode_upper(buf: &mut [u8], s: Sweep, e: usize)
+    requires { ⌜ Down s (now buf) × (1 ≤ e) × (e ≤ s .majors) ⌝ }
+    ensures { λ _. ⌜ RowsAre (s .major) (s .minors) 0 (s .majors - e) (eroding s e (now (buf .entry))) (now (buf .entry)) (now (buf .exit)) ⌝ }
+{
+    let rows = s.majors;
+    let n = s.minors;
+    let stride = s.major;
+    let mut i = 0;
+    while i < rows - e {
+        erode_row(buf, i * stride, n, e * stride, aside(s, i), aside(s, i + e));
+        i += 1;
+    }
+}
+
+// The rows from `from` on become 0.
+pub(crate) fn clear_rows(buf: &mut [u8], s: Sweep, from: usize)
+    requires { ⌜ Down s (now buf) × (from ≤ s .majors) ⌝ }
+    ensures { λ _. ⌜ RowsAre (s .major) (s .minors) from (s .majors) (λ (i k : ℕ). 0) (now (buf .entry)) (now (buf .exit)) ⌝ }
+{
+    let rows = s.majors;
+    let n = s.minors;
+    let stride = s.major;
+    let mut i = from;
+    while i < rows {
+        line::blacken(buf, i * stride, n);
+        i += 1;
+    }
+}
+
+pub(crate) fn erode_rows(buf: &mut [u8], s: Sweep, e: usize)
+    requires { ⌜ Down s (now buf) × (1 ≤ e) × (e ≤ s .majors) ⌝ }
+    ensures { λ _. ⌜ RowsAre (s .major) (s .minors) 0 (s .majors) (eroding s e (now (buf .entry))) (now (buf .entry)) (now (buf .exit)) ⌝ }
+{
+    erode_upper(buf, s, e);
+    clear_rows(buf, s, s.majors - e);
+}
+
+pub(crate) fn dilate_rows(buf: &mut [u8], s: Sweep, e: usize)
+    requires { ⌜ Down s (now buf) × (1 ≤ e) × (e ≤ s .majors) ⌝ }
+    ensures { λ _. ⌜ RowsAre (s .major) (s .minors) e (s .majors) (dilating s e (now (buf .entry))) (now (buf .entry)) (now (buf .exit)) ⌝ }
+{
+    let n = s.minors;
+    let stride = s.major;
+    let mut i = s.majors;
+    while e < i {
+        i -= 1;
+        dilate_row(
+            buf,
+            (i - e) * stride,
+            n,
+            e * stride,
+            aside(s, i),
+            aside(s, i - e),
+        );
+    }
+}
