@@ -8,12 +8,13 @@ use native.Mathlib.Omega.{arith}
 use lib.ListN.{length, getD, take, drop}
 use lib.Seq.{getD-take, getD-drop}
 use Rattle.lists.specs.Stores.{Filled}
-use Rattle.lists.proofs.Stores.{filled-part, filled-start, filled-end}
+use Rattle.lists.proofs.Stores.{filled-start, filled-end}
+use Rattle.lists.proofs.Parts.{part-filled}
 use Rattle.line.specs.Passes.{narrowed, widened}
 use Rattle.line.specs.Parts.{Darkens, Brightens, Clears}
 
 -- the part of n bytes from `at` on is p now
-module _ (d p : List ℕ) (at n : ℕ) (fit : at + n ≤ length d) (size : length p ≡ length (take n (drop at d))) where
+module _ (d p : List ℕ) (at n : ℕ) (fit : at + n ≤ length d) (size : length p ≡ n) where
   part : (j x : ℕ) → j < n → at + j ≡ x → getD (take n (drop at d)) j 0 ≡ getD d x 0
   part j x h e = getD-take n (drop at d) j 0 h ∙ getD-drop at d j 0 ∙ ap (λ (k : ℕ). getD d k 0) e
 
@@ -23,7 +24,7 @@ module _ (d p : List ℕ) (at n : ℕ) (fit : at + n ≤ length d) (size : lengt
       record {
         done = λ room.
             filled-start
-            (filled-part d p at n fit size f (omega arith) (narrowed d dist)
+            (part-filled at n f size fit (omega arith) (narrowed d dist)
             (λ k l h. ap₂ min (part k (at + k) (omega arith) refl) (part (k + dist) (at + k + dist) (omega arith) (omega arith))))
             (omega arith);
         none = λ out. absurd (out (omega arith));
@@ -35,7 +36,7 @@ module _ (d p : List ℕ) (at n : ℕ) (fit : at + n ≤ length d) (size : lengt
       record {
         done = λ room.
             filled-end
-            (filled-part d p at n fit size f (omega arith) (widened d dist)
+            (part-filled at n f size fit (omega arith) (widened d dist)
             (λ k l h. ap₂ max (part k (at + k) (omega arith) refl) (part (k - dist) (at + k - dist) (omega arith) (omega arith))))
             (omega arith);
         none = λ out. absurd (out (omega arith));
@@ -44,6 +45,6 @@ module _ (d p : List ℕ) (at n : ℕ) (fit : at + n ≤ length d) (size : lengt
   pub cleared-part : (count hi : ℕ) → n ≡ count → Filled (take n (drop at d)) p 0 hi (λ (k : ℕ). 0) → hi ≡ n → Clears at count d (take at d ++ (p ++ drop n (drop at d)))
   cleared-part count hi e f end =
       record {
-        done = λ room. filled-start (filled-end (filled-part d p at n fit size f (omega arith) (λ (k : ℕ). 0) (λ k l h. refl)) (omega arith)) (omega arith);
+        done = λ room. filled-start (filled-end (part-filled at n f size fit (omega arith) (λ (k : ℕ). 0) (λ k l h. refl)) (omega arith)) (omega arith);
         none = λ out. absurd (out (omega arith));
       }

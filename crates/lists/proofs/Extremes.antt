@@ -1,5 +1,6 @@
 -- The least, the greatest and the total of a list, by their bounds.
 --   least-le, le-least              the least is below each number, and above whatever is below each
+--   least-mem, le-least-mem         the same by what stands in the list
 --   least-cons, least-snoc          the least of a list with one number more, at its front or at its end
 --   le-those, those-le              the greatest of those values that a test picks, likewise
 --   total-append, total-table       the total of two lists, and of a table one value longer
@@ -7,7 +8,7 @@
 -- Assumes nothing.
 use mathlib.Core.Path.{_≡_, refl, ap, _∙_}
 use mathlib.Core.Bool.{Bool, true, false, false≢true}
-use mathlib.Core.List.{List, [], _∷_, _++_}
+use mathlib.Core.List.{List, [], _∷_, _++_, List·Memᴰ, List·Memᴰ·head, List·Memᴰ·tail, List·Memᴰ·not-nil, List·Memᴰ·cases-cons}
 use mathlib.Core.Logic.{⊎-elim}
 use Prim.Native.Nat.{ℕ, zero, suc, _+_, _≤_, _<_, min, max, zero-le, suc-le-suc}
 use native.Mathlib.Nat.{not-suc-le-zero, le-of-suc-le-suc, eq-or-lt-of-le, le-refl, le-trans, min-le-left, min-le-right, le-min, le-max-left, max-le}
@@ -42,6 +43,23 @@ unfolding least
 least-snoc [] v h = absurd (not-suc-le-zero h)
 least-snoc (x ∷ []) v h = refl
 least-snoc (x ∷ (y ∷ ys)) v h = omega (arith, least-snoc (y ∷ ys) v (omega arith))
+
+pub least-mem : (a : ℕ) (l : List ℕ) → List·Memᴰ a l → least l ≤ a
+unfolding least
+least-mem a [] m = absurd (List·Memᴰ·not-nil m)
+least-mem a (x ∷ []) m = ⊎-elim (λ q. omega arith) (λ n. absurd (List·Memᴰ·not-nil n)) (List·Memᴰ·cases-cons m)
+least-mem a (x ∷ (y ∷ ys)) m =
+    ⊎-elim
+    (λ q. omega (arith, min-le-left x (least (y ∷ ys))))
+    (λ n. le-trans (min-le-right x (least (y ∷ ys))) (least-mem a (y ∷ ys) n))
+    (List·Memᴰ·cases-cons m)
+
+pub le-least-mem : (k : ℕ) (l : List ℕ) (a : ℕ) → List·Memᴰ a l → ((b : ℕ) → List·Memᴰ b l → k ≤ b) → k ≤ least l
+unfolding least
+le-least-mem k [] a m h = absurd (List·Memᴰ·not-nil m)
+le-least-mem k (x ∷ []) a m h = h x (List·Memᴰ·head refl)
+le-least-mem k (x ∷ (y ∷ ys)) a m h =
+    le-min (h x (List·Memᴰ·head refl)) (le-least-mem k (y ∷ ys) y (List·Memᴰ·head refl) (λ b n. h b (List·Memᴰ·tail n)))
 
 -- ---- the greatest
 

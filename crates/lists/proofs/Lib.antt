@@ -5,9 +5,13 @@
 --   Stores      a storing loop: none stored, one more, one stretch after another
 --   Picks       lists of those numbers that a test picks: what stands in them, and what they are
 --   Sums        totals of totals, by rows or by columns
+--   Parts       a part of a list, lent and put back
+--   Totals      totals against their entries, and the difference of two totals
 pub mod Cases
 pub mod Tables
 pub mod Extremes
 pub mod Stores
 pub mod Picks
 pub mod Sums
+pub mod Parts
+pub mod Totals

@@ -3,18 +3,17 @@
 --   filled-more, filled-before      one store more, behind the others or before them
 --   filled-join, filled-join-before one stretch behind another, or before it
 --   filled-end, filled-start, filled-as    the same stretch, its ends and values known by equations
---   filled-part                     a part taken out, filled, and put back
 --   filled-whole, filled-copy, filled-front    what a filled list is
 --   front-length, front-more        values at the front: the length stays, and one value more is one store
 -- Assumes nothing.
-use mathlib.Core.Path.{_≡_, refl, sym, _∙_, subst, ap}
+use mathlib.Core.Path.{_≡_, refl, sym, _∙_, subst}
 use mathlib.Core.List.{List, [], _∷_, _++_, append-assoc}
 use mathlib.Core.Logic.{⊎-elim}
 use Prim.Native.Nat.{ℕ, suc, _+_, _-_, _≤_, _<_, zero-le}
 use native.Mathlib.Nat.{eq-or-lt-of-le}
 use native.Mathlib.Omega.{arith}
-use lib.ListN.{length, getD, set, drop, length-set, length-append, length-drop, List·getD-append, take}
-use lib.Seq.{drop-cons, set-append-seam, getD-set-same, getD-set-other, getD-append-add, getD-drop, ext-getD, getD-take, length-take-le}
+use lib.ListN.{length, getD, set, drop, length-set, length-append, length-drop, List·getD-append}
+use lib.Seq.{drop-cons, set-append-seam, getD-set-same, getD-set-other, getD-append-add, getD-drop, ext-getD}
 use Rattle.lists.specs.Tables.{table}
 use Rattle.lists.specs.Stores.{Filled, front}
 use Rattle.lists.proofs.Cases.{less-or-not}
@@ -90,64 +89,6 @@ filled-join-before {d} {a} {b} {lo} {mid} {hi} {F} f g low high =
       below = λ k h. g .below k h ∙ f .below k (omega arith);
       above = λ k h. g .above k (omega arith) ∙ f .above k h;
     }
-
--- ---- a part taken out, filled, and put back
-
-module _ (d p : List ℕ) (at n : ℕ) (fit : at + n ≤ length d) (size : length p ≡ length (take n (drop at d))) where
-  part-length : length (take n (drop at d)) ≡ n
-  part-length = length-take-le n (drop at d) (omega (arith, length-drop at d))
-
-  back-before : (x : ℕ) → x < at → getD (take at d ++ (p ++ drop n (drop at d))) x 0 ≡ getD d x 0
-  back-before x h =
-      List·getD-append (take at d) (p ++ drop n (drop at d)) 0 x (omega (arith, length-take-le at d (omega arith))) ∙ getD-take at d x 0 h
-
-  back-from : (j : ℕ) → getD (take at d ++ (p ++ drop n (drop at d))) (at + j) 0 ≡ getD (p ++ drop n (drop at d)) j 0
-  back-from j = rw (length-take-le at d (omega arith)) at (getD-append-add (take at d) (p ++ drop n (drop at d)) j 0)
-
-  back-within : (j : ℕ) → j < n → getD (take at d ++ (p ++ drop n (drop at d))) (at + j) 0 ≡ getD p j 0
-  back-within j h = back-from j ∙ List·getD-append p (drop n (drop at d)) 0 j (omega (arith, part-length))
-
-  back-behind : (j : ℕ) → n ≤ j → getD (take at d ++ (p ++ drop n (drop at d))) (at + j) 0 ≡ getD d (at + j) 0
-  back-behind j h =
-      let np : length p ≡ n = size ∙ part-length in
-      let e : length p + (j - n) ≡ j = omega arith in
-      let q : at + (n + (j - n)) ≡ at + j = omega arith in
-      back-from j
-      ∙ ap (λ (k : ℕ). getD (p ++ drop n (drop at d)) k 0) (sym e)
-      ∙ getD-append-add p (drop n (drop at d)) (j - n) 0
-      ∙ getD-drop n (drop at d) (j - n) 0
-      ∙ getD-drop at d (n + (j - n)) 0
-      ∙ ap (λ (k : ℕ). getD d k 0) q
-
-  part-at : (j : ℕ) → j < n → getD (take n (drop at d)) j 0 ≡ getD d (at + j) 0
-  part-at j h = getD-take n (drop at d) j 0 h ∙ getD-drop at d j 0
-
-  back-length : length (take at d ++ (p ++ drop n (drop at d))) ≡ length d
-  back-length =
-      length-append (take at d) (p ++ drop n (drop at d))
-      ∙ omega (arith, length-append p (drop n (drop at d)), length-drop n (drop at d), length-drop at d, length-take-le at d (omega arith), part-length)
-
-  -- a place that the part has, and its filling leaves
-  back-kept : (x : ℕ) → at ≤ x → (x - at < n → getD p (x - at) 0 ≡ getD (take n (drop at d)) (x - at) 0)
-      → getD (take at d ++ (p ++ drop n (drop at d))) x 0 ≡ getD d x 0
-  back-kept x from keeps =
-      let q : at + (x - at) ≡ x = omega arith in
-      ⊎-elim
-      (λ in′. rw q at (back-within (x - at) in′ ∙ keeps in′ ∙ part-at (x - at) in′))
-      (λ out. rw q at (back-behind (x - at) out))
-      (less-or-not (x - at) n)
-
-  pub filled-part : {lo hi : ℕ} {F : ℕ → ℕ} → Filled (take n (drop at d)) p lo hi F → hi ≤ n → (G : ℕ → ℕ) → ((k : ℕ) → lo ≤ k → k < hi → F k ≡ G (at + k))
-      → Filled d (take at d ++ (p ++ drop n (drop at d))) (at + lo) (at + hi) G
-  filled-part {lo} {hi} {F} f inside G e =
-      record {
-        same = back-length;
-        within = λ x l h.
-            let q : at + (x - at) ≡ x = omega arith in
-            rw q at (back-within (x - at) (omega arith) ∙ f .within (x - at) (omega arith) (omega arith) ∙ e (x - at) (omega arith) (omega arith));
-        below = λ x l. ⊎-elim (back-before x) (λ from. back-kept x from (λ in′. f .below (x - at) (omega arith))) (less-or-not x at);
-        above = λ x l. back-kept x (omega arith) (λ in′. f .above (x - at) (omega arith));
-      }
 
 -- filled from the first place to the last
 pub filled-whole : {d a : List ℕ} {hi : ℕ} {F : ℕ → ℕ} → Filled d a 0 hi F → hi ≡ length d → a ≡ table F hi

@@ -1,4 +1,5 @@
 -- Where the part fits, it is lent to the pass.
+use mathlib.Core.Path.{_∙_}
 use Prim.Native.Nat.{_+_, _-_}
 use native.Mathlib.Omega.{arith}
 use lib.ListN.{length-drop}
@@ -40,7 +41,7 @@ returns-3 c =
     let at = c .before .before .before .before .before .before .before .args .at in
     let count = c .before .before .before .before .before .before .before .args .count in
     let buf = c .before .before .before .before .before .before .before .args .buf .now in
-    cleared-part buf _ at (at + count - at) (omega arith) (c .before .before .clear .kept .0) count _ (omega arith) (c .before .before .clear .ensures) (length-take-le _ _ (omega (arith, length-drop at buf)))
+    cleared-part buf _ at (at + count - at) (omega arith) (c .before .before .clear .kept .0 ∙ length-take-le _ _ (omega (arith, length-drop at buf))) count _ (omega arith) (c .before .before .clear .ensures) (length-take-le _ _ (omega (arith, length-drop at buf)))
 
 pub blacken-spec : {M : Type 1} → statement M
 blacken-spec =

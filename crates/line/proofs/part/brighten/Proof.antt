@@ -1,4 +1,5 @@
 -- Where the part fits, it is lent to the pass.
+use mathlib.Core.Path.{_∙_}
 use Prim.Native.Nat.{_+_, _-_}
 use native.Mathlib.Omega.{arith}
 use lib.ListN.{length-drop}
@@ -47,7 +48,7 @@ returns-4 c =
     let count = c .before .before .before .before .before .before .before .before .args .count in
     let dist = c .before .before .before .before .before .before .before .before .args .d in
     let buf = c .before .before .before .before .before .before .before .before .args .buf .now in
-    brightened-part buf _ at (at + dist + count - at) (omega arith) (c .before .before .widen .kept .0) count dist _ (omega arith) (c .before .before .widen .ensures) (length-take-le _ _ (omega (arith, length-drop at buf)))
+    brightened-part buf _ at (at + dist + count - at) (omega arith) (c .before .before .widen .kept .0 ∙ length-take-le _ _ (omega (arith, length-drop at buf))) count dist _ (omega arith) (c .before .before .widen .ensures) (length-take-le _ _ (omega (arith, length-drop at buf)))
 
 pub brighten-spec : {M : Type 1} → statement M
 brighten-spec =

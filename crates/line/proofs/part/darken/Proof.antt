@@ -1,6 +1,9 @@
 -- Where the part fits, it is lent to the pass.
+use mathlib.Core.Path.{_∙_}
 use Prim.Native.Nat.{_+_, _-_}
 use native.Mathlib.Omega.{arith}
+use lib.ListN.{length-drop}
+use lib.Seq.{length-take-le}
 use Rattle.line.proofs.Parts.{darkened-part}
 use borrow.Author.Needs.{needs}
 use Rattle.line.proofs.part.darken.Statement.{statement}
@@ -45,7 +48,7 @@ returns-4 c =
     let count = c .before .before .before .before .before .before .before .before .args .count in
     let dist = c .before .before .before .before .before .before .before .before .args .d in
     let buf = c .before .before .before .before .before .before .before .before .args .buf .now in
-    darkened-part buf _ at (at + dist + count - at) (omega arith) (c .before .before .narrow .kept .0) count dist (omega arith) (c .before .before .narrow .ensures)
+    darkened-part buf _ at (at + dist + count - at) (omega arith) (c .before .before .narrow .kept .0 ∙ length-take-le _ _ (omega (arith, length-drop at buf))) count dist (omega arith) (c .before .before .narrow .ensures)
 
 pub darken-spec : {M : Type 1} → statement M
 darken-spec =

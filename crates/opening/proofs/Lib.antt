@@ -1,0 +1,9 @@
+-- The laws of opening/specs.
+--   Bands       a frame painted row by row
+--   Along       along, a line is a row
+--   Leaders     the greatest of some numbers, and the first that reaches it, one number more
+--   Calls       what a done answer says of a call's numbers
+pub mod Bands
+pub mod Along
+pub mod Leaders
+pub mod Calls

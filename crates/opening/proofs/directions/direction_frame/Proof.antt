@@ -1,0 +1,56 @@
+-- A done answer says that all fits; a refused one that nothing was touched.
+use mathlib.Core.Path.{refl, _∙_}
+use native.Mathlib.Omega.{arith}
+use lib.ListN.{length as size}
+use Rattle.strips.proofs.Fits.{bytes-by}
+use Rattle.opening.proofs.Calls.{directions-ready}
+use borrow.Author.Needs.{needs}
+use Rattle.opening.proofs.directions.direction_frame.Statement.{statement}
+use Rattle.opening.proofs.directions.direction_frame.Tie as tie
+
+refusal-requires : tie.Need-refusal-requires
+refusal-requires c κs = search needs
+
+returns : tie.Need-returns
+returns c = record {
+  answers = c .before .before .refusal .ensures;
+  done = λ z. absurd (c .if1 .taken z);
+  refused = λ z. (refl, refl);
+  scratch-length = refl;
+}
+
+strip-bytes-requires : tie.Need-strip-bytes-requires
+strip-bytes-requires c κs = search needs
+
+directions-into-requires : tie.Need-directions-into-requires
+directions-into-requires c κs =
+    let a = c .before .before .before .before .before .before .before .before .before .args in
+    let ready = directions-ready (a .shape) (a .length) (size (a .src .now)) (size (a .dst .now)) (size (a .scratch .now)) (c .before .before .before .before .before .refusal .ensures) (c .before .before .before .if1 .left) in
+    let behind = c .before .before .strip-bytes .ensures ∙ bytes-by (a .shape) (ready .0 .ok .frame) in
+    (ready .0, behind, omega (arith, behind, ready .1))
+
+same-length : tie.Need-same-length
+same-length c = search needs
+
+same-length-2 : tie.Need-same-length-2
+same-length-2 c = search needs
+
+returns-2 : tie.Need-returns-2
+returns-2 c = record {
+  answers = c .before .before .before .before .before .before .before .before .before .before .refusal .ensures;
+  done = λ z. c .before .before .before .before .directions-into .ensures;
+  refused = λ z. absurd (z (c .before .before .before .before .before .before .before .before .if1 .left));
+  scratch-length = c .before .before .before .before .directions-into .kept .1 .1 .1 .1 .1 .0;
+}
+
+pub direction-frame-spec : {M : Type 1} → statement M
+direction-frame-spec =
+    tie.close
+    (tie.spec
+    refusal-requires
+    returns
+    strip-bytes-requires
+    directions-into-requires
+    same-length
+    same-length-2
+    returns-2)

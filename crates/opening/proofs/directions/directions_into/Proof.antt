@@ -1,0 +1,158 @@
+-- At each pixel stands the first of the first n directions that reaches their greatest, which stands in the best frame.
+use mathlib.Core.Path.{_≡_, refl, sym, ap, ap₂, _∙_}
+use Prim.Native.Nat.{ℕ, _-_, _≤_, max}
+use native.Mathlib.Omega.{arith}
+use lib.ListN.{length as size, take, drop}
+use Rattle.lists.specs.Tables.{table}
+use Rattle.lists.specs.Extremes.{greatest}
+use Rattle.frame.specs.declared.direction.Direction.{Direction}
+use Rattle.frame.specs.Shape.{needed}
+use Rattle.frame.proofs.Shapes.{framed}
+use Rattle.strips.specs.Pixels.{openedPixel, Painted}
+use Rattle.strips.specs.Engine.{stripBytes, claims, packed}
+use Rattle.strips.proofs.Paintings.{painted-as, painted-again, painted-stays}
+use Rattle.strips.proofs.Claims.{packed-needed, tail-length, tail-same, best-begins}
+use Rattle.strips.proofs.Fits.{ready-fits, claim-fits}
+use Rattle.opening.specs.Pixels.{inDirection, firstGreatest}
+use Rattle.opening.proofs.Along.{along-opened}
+use Rattle.opening.proofs.Calls.{ready-numbered}
+use Rattle.opening.proofs.Leaders.{greatest-one, greatest-more, first-one, first-more}
+use borrow.Author.Needs.{needs}
+use Rattle.opening.proofs.directions.directions_into.Statement.{statement}
+use Rattle.opening.proofs.directions.directions_into.Tie as tie
+
+abbrev Inv-loop : tie.InvT-loop
+Inv-loop src shape length behind dst₀ scratch₀ width n₀ dst scratch n =
+    (1 ≤ n)
+    × (n ≤ 16)
+    × (size scratch ≡ size scratch₀)
+    × Painted shape (λ (x y : ℕ). firstGreatest (inDirection src shape length x y) n) dst₀ dst
+    × Painted (packed shape) (λ (x y : ℕ). greatest (table (inDirection src shape length x y) n)) (drop (stripBytes shape) scratch₀) (drop (stripBytes shape) scratch)
+
+abbrev μ-loop : tie.MeasureT-loop
+μ-loop src shape length behind dst₀ scratch₀ width n₀ dst scratch n = 16 - n
+
+darken-requires : tie.Need-darken-requires Inv-loop μ-loop
+darken-requires c κs = (c .before .before .before .before .pre .0 .ok .frame, c .before .before .before .before .pre .0 .target)
+
+sub-open-rows : tie.Need-sub-open-rows Inv-loop μ-loop
+sub-open-rows c = omega (arith, c .before .before .before .before .before .before .before .pre .2)
+
+part-open-rows-start : tie.Need-part-open-rows-start Inv-loop μ-loop
+part-open-rows-start c = omega (arith, c .before .before .before .before .before .before .before .pre .2)
+
+part-open-rows-end : tie.Need-part-open-rows-end Inv-loop μ-loop
+part-open-rows-end c = search needs
+
+open-rows-requires : tie.Need-open-rows-requires Inv-loop μ-loop
+open-rows-requires c κs =
+    let a = c .before .before .before .before .before .before .before .before .args in
+    let pre = c .before .before .before .before .before .before .before .before .pre in
+    let frame = framed (a .shape) (pre .0 .ok .frame) in
+    let room : needed (packed (a .shape)) ≤ size (take (size (a .scratch .now) - a .behind) (drop (a .behind) (a .scratch .now))) =
+    omega (arith, packed-needed (a .shape) (frame .high), tail-length (a .behind) (a .scratch .now), pre .2) in
+    (pre .0 .ok .frame, omega arith, pre .0 .some, pre .0 .source, room)
+
+loop-holds : tie.Need-loop-holds Inv-loop μ-loop
+loop-holds c =
+    let a = c .before .before .before .before .before .before .before .before .before .before .before .args in
+    let pre = c .before .before .before .before .before .before .before .before .before .before .before .pre in
+    let rows = c .before .before .open-rows in
+    let v : ℕ → ℕ → ℕ → ℕ = inDirection (a .src .now) (a .shape) (a .length) in
+    let best =
+    best-begins (a .behind) (stripBytes (a .shape)) (a .scratch .now) (rows .last .1 .1 .1 .1 .0) (omega (arith, pre .2)) (pre .1) (rows .ensures) in (
+      omega arith,
+      omega arith,
+      refl,
+      painted-as _ (painted-stays (c .before .before .before .before .before .before .darken .ensures)) (λ x y h l. sym (first-one (v x y))),
+      painted-as _ best
+          (λ x y h l. sym (greatest-one (v x y) ∙ along-opened (a .src .now) (a .shape) _ (pre .0 .ok) refl (pre .0 .source) (a .length) x y (pre .0 .some) h l)),
+    )
+
+cast-claim-frame : tie.Need-cast-claim-frame Inv-loop μ-loop
+cast-claim-frame c = omega (arith, c .loop-test .taken)
+
+numbered-requires : tie.Need-numbered-requires Inv-loop μ-loop
+numbered-requires c κs = search needs
+
+claim-frame-requires : tie.Need-claim-frame-requires Inv-loop μ-loop
+claim-frame-requires c κs = search needs
+
+add-n : tie.Need-add-n Inv-loop μ-loop
+add-n c = omega (arith, c .before .before .before .before .before .before .before .before .loop-test .taken)
+
+loop-less : tie.Need-loop-less Inv-loop μ-loop
+loop-less c = omega (arith, c .before .before .before .before .before .before .before .before .loop-test .taken)
+
+loop-again : tie.Need-loop-again Inv-loop μ-loop
+loop-again c =
+    let a = c .before .before .before .before .before .before .before .before .before .before .before .before .before .before .before .before .before .before .before .before .before .args in
+    let loop = c .before .before .before .before .before .before .before .before .before .loop in
+    let n = loop .n in
+    let d = c .before .before .before .before .before .before .before .numbered .result in
+    let pre = c .before .before .before .before .before .before .before .before .before .before .before .before .before .before .before .before .before .before .before .before .before .pre in
+    let rows = c .before .before .before .before .before .before .before .before .before .before .before .before .open-rows in
+    let fits = tail-same (a .behind) (a .scratch .now) (rows .last .1 .1 .1 .1 .0) (rows .kept .1 .1 .1 .1 .0) (omega (arith, pre .2)) in
+    let ready =
+    ready-numbered (a .shape) (a .length) _ _ _ n (omega (arith, c .before .before .before .before .before .before .before .before .loop-test .taken)) (c .before .before .before .before .before .before .before .numbered .ensures) (loop .inv .3 .same ∙ c .before .before .before .before .before .before .before .before .before .before .before .before .before .before .before .before .darken .kept .1 .0)
+    (loop .inv .2 ∙ fits) (pre .0) in
+    let claimed = c .before .before .before .before .claim-frame .ensures in
+    let claim =
+    claimed .fitted
+    (claim-fits (a .shape) d (a .length) (size (a .src .now)) (size (loop .dst)) (size (loop .scratch)) (ready-fits (a .shape) d (a .length) _ _ _ ready) (omega (arith, pre .1, pre .2, loop .inv .2, fits))) in
+    let is = c .before .before .before .before .before .before .before .numbered .ensures in
+    let v : ℕ → ℕ → ℕ → ℕ = inDirection (a .src .now) (a .shape) (a .length) in
+    let new : Direction → ℕ → ℕ → ℕ = λ d x y. openedPixel (a .src .now) (a .shape) d (a .length) x y in (
+      omega arith,
+      omega (arith, c .before .before .before .before .before .before .before .before .loop-test .taken),
+      claimed .same ∙ loop .inv .2,
+      painted-as _ (painted-again (loop .inv .3) (claim .holders))
+          (λ x y h l.
+          ap₂ (λ (m k : ℕ). claims m n (new d x y) k) (loop .inv .4 .pixels x y h l) (loop .inv .3 .pixels x y h l)
+          ∙ ap (λ (e : Direction). claims (greatest (table (v x y) n)) n (new e x y) (firstGreatest (v x y) n)) is
+          ∙ sym (first-more (v x y) n (loop .inv .0))),
+      painted-as _ (painted-again (loop .inv .4) (claim .raised))
+          (λ x y h l.
+          ap (λ (m : ℕ). max m (new d x y)) (loop .inv .4 .pixels x y h l)
+          ∙ ap (λ (e : Direction). max (greatest (table (v x y) n)) (new e x y)) is
+          ∙ sym (greatest-more (v x y) n)),
+    )
+
+same-length : tie.Need-same-length Inv-loop μ-loop
+same-length c = c .before .loop .inv .3 .same ∙ c .before .before .before .before .before .before .before .before .darken .kept .1 .0
+
+same-length-2 : tie.Need-same-length-2 Inv-loop μ-loop
+same-length-2 c =
+    let a = c .before .before .before .before .before .before .before .before .before .before .before .before .before .args in
+    let rows = c .before .before .before .before .open-rows in
+    c .before .loop .inv .2 ∙ tail-same (a .behind) (a .scratch .now) (rows .last .1 .1 .1 .1 .0) (rows .kept .1 .1 .1 .1 .0) (omega (arith, c .before .before .before .before .before .before .before .before .before .before .before .before .before .pre .2))
+
+returns : tie.Need-returns Inv-loop μ-loop
+returns c =
+    let a = c .before .before .before .before .before .before .before .before .before .before .before .before .before .args in
+    let loop = c .before .loop in
+    let all : loop .n ≡ 16 = omega arith in
+    painted-again (c .before .before .before .before .before .before .before .before .darken .ensures)
+    (painted-as _ (loop .inv .3) (λ x y h l. ap (firstGreatest (inDirection (a .src .now) (a .shape) (a .length) x y)) all))
+
+pub directions-into-spec : {M : Type 1} → statement M
+directions-into-spec =
+    tie.close
+    (tie.spec
+    Inv-loop
+    μ-loop
+    darken-requires
+    sub-open-rows
+    part-open-rows-start
+    part-open-rows-end
+    open-rows-requires
+    loop-holds
+    cast-claim-frame
+    numbered-requires
+    claim-frame-requires
+    add-n
+    loop-less
+    loop-again
+    same-length
+    same-length-2
+    returns)

@@ -1,0 +1,112 @@
+-- At each pixel stands the greatest over the first n directions.
+use mathlib.Core.Path.{_≡_, refl, sym, ap, _∙_}
+use Prim.Native.Nat.{ℕ, _-_, _≤_, max}
+use native.Mathlib.Omega.{arith}
+use lib.ListN.{length as size}
+use Rattle.lists.specs.Tables.{table}
+use Rattle.lists.specs.Extremes.{greatest}
+use Rattle.frame.specs.declared.direction.Direction.{Direction}
+use Rattle.frame.proofs.Shapes.{framed}
+use Rattle.strips.specs.Pixels.{openedPixel, Painted}
+use Rattle.strips.proofs.Paintings.{painted-as, painted-again, painted-stays}
+use Rattle.strips.proofs.Fits.{ready-fits}
+use Rattle.opening.specs.Pixels.{inDirection}
+use Rattle.opening.proofs.Along.{along-opened}
+use Rattle.opening.proofs.Calls.{ready-numbered}
+use Rattle.opening.proofs.Leaders.{greatest-one, greatest-more}
+use borrow.Author.Needs.{needs}
+use Rattle.opening.proofs.sixteen.highest_into.Statement.{statement}
+use Rattle.opening.proofs.sixteen.highest_into.Tie as tie
+
+abbrev Inv-loop : tie.InvT-loop
+Inv-loop src shape length dst₀ scratch₀ stride n₀ dst scratch n =
+    (1 ≤ n)
+    × (n ≤ 16)
+    × (size scratch ≡ size scratch₀)
+    × Painted shape (λ (x y : ℕ). greatest (table (inDirection src shape length x y) n)) dst₀ dst
+
+abbrev μ-loop : tie.MeasureT-loop
+μ-loop src shape length dst₀ scratch₀ stride n₀ dst scratch n = 16 - n
+
+open-rows-requires : tie.Need-open-rows-requires Inv-loop μ-loop
+open-rows-requires c κs =
+    let pre = c .before .before .before .before .pre in
+    (pre .ok .frame, framed (c .before .before .before .before .args .shape) (pre .ok .frame) .past, pre .some, pre .source, pre .target)
+
+loop-holds : tie.Need-loop-holds Inv-loop μ-loop
+loop-holds c =
+    let a = c .before .before .before .before .before .before .before .args in
+    let pre = c .before .before .before .before .before .before .before .pre in
+    let along = painted-stays (c .before .before .open-rows .ensures) in (
+      omega arith,
+      omega arith,
+      refl,
+      painted-as _ along
+          (λ x y h l.
+          sym (greatest-one (inDirection (a .src .now) (a .shape) (a .length) x y) ∙ along-opened (a .src .now) (a .shape) _ (pre .ok) refl (pre .source) (a .length) x y (pre .some) h l)),
+    )
+
+numbered-requires : tie.Need-numbered-requires Inv-loop μ-loop
+numbered-requires c κs = search needs
+
+put-frame-requires : tie.Need-put-frame-requires Inv-loop μ-loop
+put-frame-requires c κs = search needs
+
+add-n : tie.Need-add-n Inv-loop μ-loop
+add-n c = omega (arith, c .before .before .before .before .before .before .before .before .loop-test .taken)
+
+loop-less : tie.Need-loop-less Inv-loop μ-loop
+loop-less c = omega (arith, c .before .before .before .before .before .before .before .before .loop-test .taken)
+
+loop-again : tie.Need-loop-again Inv-loop μ-loop
+loop-again c =
+    let a = c .before .before .before .before .before .before .before .before .before .before .before .before .before .before .before .before .before .args in
+    let loop = c .before .before .before .before .before .before .before .before .before .loop in
+    let put = c .before .before .before .before .put-frame .ensures in
+    let rows = c .before .before .before .before .before .before .before .before .before .before .before .before .open-rows in
+    let ready =
+    ready-numbered (a .shape) (a .length) _ _ _ (loop .n) (omega (arith, c .before .before .before .before .before .before .before .before .loop-test .taken)) (c .before .before .before .before .before .before .before .numbered .ensures)
+    (loop .inv .3 .same ∙ rows .kept .1 .1 .1 .1 .0) (loop .inv .2) (c .before .before .before .before .before .before .before .before .before .before .before .before .before .before .before .before .before .pre) in
+    let raised = put .fitted (ready-fits (a .shape) _ (a .length) _ _ _ ready) in
+    let number = c .before .before .before .before .before .before .before .numbered .ensures in (
+      omega arith,
+      omega (arith, c .before .before .before .before .before .before .before .before .loop-test .taken),
+      put .same ∙ loop .inv .2,
+      painted-as _ (painted-again (loop .inv .3) raised)
+          (λ x y h l.
+          let v = inDirection (a .src .now) (a .shape) (a .length) x y in
+          ap (λ (m : ℕ). max m (openedPixel (a .src .now) (a .shape) (c .before .before .before .before .before .before .before .numbered .result) (a .length) x y)) (loop .inv .3 .pixels x y h l)
+          ∙ ap (λ (d : Direction). max (greatest (table v (loop .n))) (openedPixel (a .src .now) (a .shape) d (a .length) x y)) number
+          ∙ sym (greatest-more v (loop .n))),
+    )
+
+same-length : tie.Need-same-length Inv-loop μ-loop
+same-length c = c .before .loop .inv .3 .same ∙ c .before .before .before .before .open-rows .kept .1 .1 .1 .1 .0
+
+same-length-2 : tie.Need-same-length-2 Inv-loop μ-loop
+same-length-2 c = c .before .loop .inv .2
+
+returns : tie.Need-returns Inv-loop μ-loop
+returns c =
+    let a = c .before .before .before .before .before .before .before .before .before .args in
+    let loop = c .before .loop in
+    let all : loop .n ≡ 16 = omega arith in
+    painted-again (c .before .before .before .before .open-rows .ensures)
+    (painted-as _ (loop .inv .3) (λ x y h l. ap (λ (n : ℕ). greatest (table (inDirection (a .src .now) (a .shape) (a .length) x y) n)) all))
+
+pub highest-into-spec : {M : Type 1} → statement M
+highest-into-spec =
+    tie.close
+    (tie.spec
+    Inv-loop
+    μ-loop
+    open-rows-requires
+    loop-holds
+    numbered-requires
+    put-frame-requires
+    add-n
+    loop-less
+    loop-again
+    same-length
+    same-length-2
+    returns)

@@ -1,0 +1,25 @@
+-- The call `highest`: which rules it checks, and what it leaves.
+use mathlib.Core.Path.{_≡_}
+use mathlib.Core.Bool.{not}
+use mathlib.Core.List.{List, _∷_}
+use Prim.Native.Nat.{ℕ}
+use lib.ListN.{length}
+use Rattle.answer.specs.declared.Answer.{Answer}
+use Rattle.answer.specs.Rules.{Rule, rule, answer}
+use Rattle.frame.specs.declared.shape.Shape.{Shape}
+use Rattle.frame.specs.Shape.{isFrame}
+use Rattle.strips.specs.Pixels.{Painted}
+use Rattle.opening.specs.Pixels.{highestAt}
+use Rattle.strips.specs.Engine.{stripBytes}
+use Rattle.opening.specs.Buffers.{bufferRules}
+
+-- rules 1, 3, 5, 6 and 7
+abbrev pub highestRules : Shape → ℕ → ℕ → ℕ → ℕ → List Rule
+highestRules sh L size room spare = rule (not (isFrame sh)) 1 0 ∷ bufferRules sh L size room spare (stripBytes sh)
+
+-- f is the frame, g the destination and t the scratch. What scratch holds after a done call is left open, its length apart.
+pub record FindsHighest (f : List ℕ) (sh : Shape) (L : ℕ) (g g′ t t′ : List ℕ) (a : Answer) : Type 0 where
+  pub answers : a ≡ answer (highestRules sh L (length f) (length g) (length t)) 0
+  pub done : a .number ≡ 0 → Painted sh (highestAt f sh L) g g′
+  pub refused : (a .number ≡ 0 → ⊥) → (g′ ≡ g) × (t′ ≡ t)
+  pub scratch-length : length t′ ≡ length t

@@ -1,0 +1,80 @@
+// The direction frame: which of the sixteen numbered directions gives the highest opening.
+use crate::lent::lacking;
+use crate::rowwise::darken;
+use crate::rowwise::open_rows;
+use answer::Answer;
+use frame::Direction;
+use frame::Shape;
+use strips::claim_frame;
+use strips::strip_bytes;
+ghost use mathlib.Core.Path.{_≡_};
+ghost use Prim.Native.Nat.{_+_, _*_, _≤_};
+ghost use lib.ListN;
+ghost use Rattle.answer.specs.Rules.{answer};
+ghost use Rattle.frame.specs.Direction.{along};
+ghost use Rattle.strips.specs.Pixels.{Painted};
+ghost use Rattle.opening.specs.Pixels.{directionAt};
+ghost use Rattle.strips.specs.Engine.{stripBytes};
+ghost use Rattle.strips.specs.Strips.{Ready};
+ghost use Rattle.opening.specs.Directions.{directionRules, FindsDirections};
+
+// Rules 1, 3, 5, 6 and 7 for a frame of `size` bytes, with `room` bytes of destination and `spare` of scratch.
+fn refusal(shape: Shape, length: usize, size: usize, room: usize, spare: usize) -> Answer
+    ensures { λ r. ⌜ r ≡ answer (directionRules shape length size room spare) 0 ⌝ }
+{
+    if !shape.is_frame() {
+        return Answer::refused(1, 0);
+    }
+    let bytes = strip_bytes(shape) + shape.width * shape.height;
+    lacking(shape, length, size, room, spare, bytes)
+}
+
+// Direction 0 is along: it holds every pixel at first, with its rows as the best values, which stand in scratch behind its first `behind` bytes. The
+// other directions claim pixels in their order.
+fn directions_into(
+    src: &[u8],
+    shape: Shape,
+    length: usize,
+    behind: usize,
+    dst: &mut [u8],
+    scratch: &mut [u8],
+)
+    requires { ⌜ Ready shape along length (lib.ListN.length (now src)) (lib.ListN.length (now dst)) (lib.ListN.length (now scratch)) × (behind ≡ stripBytes shape) × (behind + shape .width * shape .height ≤ lib.ListN.length (now scratch)) ⌝ }
+    ensures { λ _. ⌜ Painted shape (directionAt (now (src .entry)) shape length) (now (dst .entry)) (now (dst .exit)) ⌝ }
+{
+    let width = shape.width;
+    darken(shape, dst);
+    open_rows(src, shape, length, width, &mut scratch[behind..]);
+    let mut n = 1;
+    while n < 16 {
+        claim_frame(
+            src,
+            n as u8,
+            shape,
+            Direction::numbered(n),
+            length,
+            dst,
+            scratch,
+        );
+        n += 1;
+    }
+}
+
+// The number of the direction, the lowest of them, that reaches the highest opening, at each pixel of the frame src, into the frame dst. Hands back 0.
+// Rules 1, 3, 5, 6, 7.
+pub fn direction_frame(
+    src: &[u8],
+    shape: Shape,
+    length: usize,
+    dst: &mut [u8],
+    scratch: &mut [u8],
+) -> Answer
+    ensures { λ a. ⌜ FindsDirections (now (src .entry)) shape length (now (dst .entry)) (now (dst .exit)) (now (scratch .entry)) (now (scratch .exit)) a ⌝ }
+{
+    let a = refusal(shape, length, src.len(), dst.len(), scratch.len());
+    if a.number != 0 {
+        return a;
+    }
+    directions_into(src, shape, length, strip_bytes(shape), dst, scratch);
+    a
+}

@@ -1,0 +1,39 @@
+// The entry for the camera's host, written in C: numbers and byte slices in, one number back.
+use crate::frames::open_frame;
+use answer::Answer;
+use frame::Direction;
+use frame::Shape;
+ghost use mathlib.Core.Path.{_≡_};
+ghost use Rattle.frame.specs.Direction.{dir};
+ghost use Rattle.frame.specs.Shape.{shape};
+ghost use Rattle.opening.specs.Host.{packed, HostOpens};
+
+// The number times 2^32, plus the figure.
+fn pack(a: Answer) -> u64
+    ensures { λ n. ⌜ n ≡ packed a ⌝ }
+{
+    a.number as u64 * 4294967296 + a.figure % 4294967296
+}
+
+// Opens a frame as `open_frame` does.
+#[no_mangle]
+pub extern "C" fn fibre_open_frame(
+    src: &[u8],
+    width: usize,
+    height: usize,
+    stride: usize,
+    p: i64,
+    q: i64,
+    length: usize,
+    dst: &mut [u8],
+    scratch: &mut [u8],
+) -> u64
+    ensures { λ n. ⌜ HostOpens (now (src .entry)) (shape width height stride) (dir p q) length (now (dst .entry)) (now (dst .exit)) (now (scratch .entry)) (now (scratch .exit)) n ⌝ }
+{
+    let frame = Shape {
+        width,
+        height,
+        stride,
+    };
+    pack(open_frame(src, frame, Direction { p, q }, length, dst, scratch))
+}

@@ -1,0 +1,12 @@
+// Strips of eight neighbouring lines of a frame of 8-bit pixels, opened in scratch and put back: the engine of the frame calls. Its calls are total.
+mod claim;
+mod eight;
+mod engine;
+mod row;
+mod strip;
+mod stripwise;
+mod walk;
+
+pub use engine::claim_frame;
+pub use engine::put_frame;
+pub use engine::strip_bytes;
