@@ -1,7 +1,11 @@
 -- The laws of rows/specs.
---   Sides     one row's part of a pass
---   Downs     a pass over all rows, and the passes of an opening
+--   Rowwise   rows treated one after the other
+--   Lines     the passes of an opening, for lines that go any way
+--   Sides     one row's part of a pass, where lines go down the rows
+--   Downs     a pass over all rows there
 --   Steeps    what `open_steep` leaves, by its tests
+pub mod Rowwise
+pub mod Lines
 pub mod Sides
 pub mod Downs
 pub mod Steeps

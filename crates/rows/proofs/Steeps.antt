@@ -14,9 +14,9 @@ use Rattle.frame.specs.declared.shape.Shape.{Shape}
 use Rattle.frame.specs.Direction.{shallow}
 use Rattle.frame.specs.Shape.{isFrame, needed}
 use Rattle.frame.specs.Sweep as sweep
-use Rattle.frame.specs.Sweep.{sweepOf, shift, Accepted}
+use Rattle.frame.specs.Sweep.{sweepOf, Accepted}
 use Rattle.frame.proofs.Shapes.{framed, sweep-sane}
-use Rattle.rows.specs.Rows.{OpensRows, opensSteep, OpensSteep}
+use Rattle.rows.specs.Rows.{OpensLines, opensSteep, OpensSteep}
 use Rattle.rows.specs.Passes.{Down}
 
 pub steep-kept : (sh : Shape) (d : Direction) (L : ℕ) (g : List ℕ) → opensSteep sh d L g ≡ false → OpensSteep sh d L g g
@@ -31,10 +31,10 @@ module _ {sh : Shape} {d : Direction} (a : Accepted sh d) (steep : shallow d ≡
   steep-down g room =
       let sane = sweep-sane a in
       let f = framed sh (a .frame) in
-      record { sane = sane; apart = rw steep (f .past); room = rw steep room }
+      record { sane = sane; next = rw steep refl; apart = rw steep (f .past); room = rw steep room }
 
   pub steep-done : (L : ℕ) (g g′ : List ℕ) → 1 ≤ L → needed sh ≤ length g
-      → OpensRows (shift (sweepOf sh d)) (sweepOf sh d .major) (sweepOf sh d .minors) (sweepOf sh d .majors) L g g′ → OpensSteep sh d L g g′
+      → OpensLines (sweepOf sh d) L g g′ → OpensSteep sh d L g g′
   steep-done L g g′ some room o =
       record {
         done = λ e. o;

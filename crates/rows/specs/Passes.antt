@@ -1,18 +1,25 @@
--- What the private passes over rows keep to.
---   Down s g             the lines of the sweep s go down the rows of the frame that stands in g
---   eroding s e g i k    what a pass of an erosion makes of pixel k of row i
---   dilating s e g i k   what a pass of a dilation makes of it
---   ErodesDown s w       each line is eroded by windows of w pixels
---   DilatesDown s L w    from the erosion of any frame by L, each line is dilated by windows of w
+-- What the private passes keep to.
+--   eroding h A N M e g i k    what a pass of an erosion makes of pixel k at major coordinate i
+--   dilating h A N e g i k     what a pass of a dilation makes of it
+--   ErodesLines s w            each line of the sweep s is eroded by windows of w pixels
+--   DilatesLines s L w         from the erosion of any frame by L, each line is dilated by windows of w
+-- Lines that go down the rows:
+--   Down s g             the lines of s go down the rows of the frame that stands in g
+-- Lines that go along the rows, and bend from one to the next:
+--   Slanted s g          the lines of s go along the rows of the frame that stands in g
+--   startOf up N S t     where row t starts, counted from the last of N rows where `up`
+--   aheadAt up N S g t j d   the pixel in column j, d rows past row t in this order; 0 where there is none
+--   Bends a b e d n m    the marks m say, for the n columns from 0 on, whether a line that rises b in a run of a goes d or d + 1 rows aside in the next e columns
+--   rowsOn d m x         so many rows, by the mark of column x
+--   eroded, dilated      what a pass makes of the pixel in column x of row t, by the marks
 --   bent m g near far j  byte j of one of two rows of g, which start at `near` and `far`: of the near one where the mark j of m is 0
 --   Ahead at p n         an upward pass over the n bytes from `at` on finds those from p on as they were
 --   Behind at p n        the same of a downward pass
---   Bends a b e d n m    the marks m say, for the n columns from 0 on, whether a line that rises b in a run of a goes d or d + 1 rows aside in the next e columns
--- Laws: rows/proofs/Passes.
+-- Laws: rows/proofs/Lines, Downs, Slants.
 use mathlib.Core.Path.{_≡_}
-use mathlib.Core.Bool.{cond}
-use mathlib.Core.Logic.{_⊎_}
+use mathlib.Core.Bool.{Bool, cond}
 use mathlib.Core.List.{List}
+use mathlib.Core.Logic.{_⊎_}
 use Prim.Native.Nat.{ℕ, _+_, _-_, _*_, _≤_, _<_, min, max}
 use lib.Dec.{eqb, ltb}
 use lib.ListN.{length, getD}
@@ -20,33 +27,62 @@ use Rattle.frame.specs.declared.sweep.Sweep.{Sweep}
 use Rattle.frame.specs.Lines.{r}
 use Rattle.frame.specs.Sweep.{shift, Sane}
 use Rattle.line.specs.Passes.{erodedTo, reopened}
-use Rattle.rows.specs.Rows.{laneAt, lane, RowsAre}
+use Rattle.rows.specs.Rows.{spot, laneAt, lane, PixelsAre}
+
+-- the line's pixel e further on, 0 where there is none
+abbrev pub eroding : (ℕ → ℕ) → (ℕ → ℕ → ℕ) → ℕ → ℕ → ℕ → List ℕ → ℕ → ℕ → ℕ
+eroding h A N M e g i k = min (getD g (A i k) 0) (cond (ltb (i + e) M) (laneAt h A N g (k + h i) (i + e)) 0)
+
+-- the line's pixel e before
+abbrev pub dilating : (ℕ → ℕ) → (ℕ → ℕ → ℕ) → ℕ → ℕ → List ℕ → ℕ → ℕ → ℕ
+dilating h A N e g i k = max (getD g (A i k) 0) (cond (ltb i e) 0 (laneAt h A N g (k + h i) (i - e)))
+
+pub record ErodesLines (s : Sweep) (w : ℕ) (before after : List ℕ) : Type 0 where
+  pub pixels : PixelsAre (spot s) (s .majors) (s .minors)
+      (λ (i k : ℕ). erodedTo (lane (shift s) (spot s) (s .minors) (s .majors) before (k + shift s i)) w i) before after
+
+pub record DilatesLines (s : Sweep) (L w : ℕ) (before after : List ℕ) : Type 0 where
+  pub pixels : (f : List ℕ) → ErodesLines s L f before
+      → PixelsAre (spot s) (s .majors) (s .minors)
+      (λ (i k : ℕ). reopened (lane (shift s) (spot s) (s .minors) (s .majors) f (k + shift s i)) L w i) f after
+
+-- ---- lines that go down the rows
 
 pub record Down (s : Sweep) (g : List ℕ) : Type 0 where
   pub sane : Sane s
+  pub next : s .minor ≡ 1
   pub apart : s .minors ≤ s .major
   pub room : (s .majors - 1) * s .major + s .minors ≤ length g
 
--- the line's pixel e rows on, 0 where there is none
-abbrev pub eroding : Sweep → ℕ → List ℕ → ℕ → ℕ → ℕ
-eroding s e g i k =
-    min (getD g (i * s .major + k) 0)
-    (cond (ltb (i + e) (s .majors)) (laneAt (shift s) (s .major) (s .minors) g (k + shift s i) (i + e)) 0)
+-- ---- lines that go along the rows, and bend
 
--- the line's pixel e rows before
-abbrev pub dilating : Sweep → ℕ → List ℕ → ℕ → ℕ → ℕ
-dilating s e g i k = max (getD g (i * s .major + k) 0) (laneAt (shift s) (s .major) (s .minors) g (k + shift s i) (i - e))
+pub record Slanted (s : Sweep) (g : List ℕ) : Type 0 where
+  pub sane : Sane s
+  pub next : s .major ≡ 1
+  pub apart : s .majors ≤ s .minor
+  pub room : (s .minors - 1) * s .minor + s .majors ≤ length g
 
-pub record ErodesDown (s : Sweep) (w : ℕ) (before after : List ℕ) : Type 0 where
-  pub rows : RowsAre (s .major) (s .minors) 0 (s .majors)
-      (λ (i k : ℕ). erodedTo (lane (shift s) (s .major) (s .minors) (s .majors) before (k + shift s i)) w i) before after
+unfoldable pub startOf : Bool → ℕ → ℕ → ℕ → ℕ
+startOf up N S t = cond up (N - 1 - t) t * S
 
-pub record DilatesDown (s : Sweep) (L w : ℕ) (before after : List ℕ) : Type 0 where
-  pub rows : (f : List ℕ) → ErodesDown s L f before
-      → RowsAre (s .major) (s .minors) 0 (s .majors)
-      (λ (i k : ℕ). reopened (lane (shift s) (s .major) (s .minors) (s .majors) f (k + shift s i)) L w i) f after
+unfoldable pub aheadAt : Bool → ℕ → ℕ → List ℕ → ℕ → ℕ → ℕ → ℕ
+aheadAt up N S g t j d = cond (ltb (t + d) N) (getD g (startOf up N S (t + d) + j) 0) 0
 
--- ---- rows whose lines bend
+abbrev pub rowsOn : ℕ → List ℕ → ℕ → ℕ
+rowsOn d m x = cond (eqb (getD m x 0) 0) d (d + 1)
+
+abbrev pub Bends : ℕ → ℕ → ℕ → ℕ → ℕ → List ℕ → Type 0
+Bends a b e d n m = (x : ℕ) → x < n → r a b (x + e) ≡ r a b x + rowsOn d m x
+
+abbrev pub eroded : Sweep → Bool → List ℕ → ℕ → ℕ → List ℕ → ℕ → ℕ → ℕ
+eroded s up m e d g t x =
+    min (getD g (startOf up (s .minors) (s .minor) t + x) 0)
+    (cond (ltb (x + e) (s .majors)) (aheadAt up (s .minors) (s .minor) g t (x + e) (rowsOn d m x)) 0)
+
+abbrev pub dilated : Sweep → Bool → List ℕ → ℕ → ℕ → List ℕ → ℕ → ℕ → ℕ
+dilated s up m e d g t x =
+    max (getD g (startOf up (s .minors) (s .minor) t + x) 0)
+    (cond (ltb x e) 0 (aheadAt up (s .minors) (s .minor) g t (x - e) (rowsOn d m (x - e))))
 
 unfoldable pub bent : List ℕ → List ℕ → ℕ → ℕ → ℕ → ℕ
 bent m g near far j = cond (eqb (getD m j 0) 0) (getD g (near + j) 0) (getD g (far + j) 0)
@@ -56,6 +92,3 @@ Ahead at p n = (at ≤ p) ⊎ (p + n ≤ at)
 
 abbrev pub Behind : ℕ → ℕ → ℕ → Type 0
 Behind at p n = (p ≤ at) ⊎ (at + n ≤ p)
-
-abbrev pub Bends : ℕ → ℕ → ℕ → ℕ → ℕ → List ℕ → Type 0
-Bends a b e d n m = (x : ℕ) → x < n → r a b (x + e) ≡ r a b x + cond (eqb (getD m x 0) 0) d (d + 1)

@@ -6,13 +6,12 @@ use frame::Direction;
 use frame::Shape;
 use frame::Sweep;
 ghost use Prim.Native.Nat.{_≤_};
-ghost use Rattle.frame.specs.Sweep.{shift};
-ghost use Rattle.rows.specs.Rows.{OpensRows, OpensSteep};
-ghost use Rattle.rows.specs.Passes.{Down, ErodesDown, DilatesDown};
+ghost use Rattle.rows.specs.Rows.{OpensLines, OpensSteep};
+ghost use Rattle.rows.specs.Passes.{Down, ErodesLines, DilatesLines};
 
 fn erode_down(buf: &mut [u8], s: Sweep, length: usize)
     requires { ⌜ Down s (now buf) × (1 ≤ length) × (length ≤ s .majors) ⌝ }
-    ensures { λ _. ⌜ ErodesDown s length (now (buf .entry)) (now (buf .exit)) ⌝ }
+    ensures { λ _. ⌜ ErodesLines s length (now (buf .entry)) (now (buf .exit)) ⌝ }
 {
     let mut w = 1;
     while w < length {
@@ -25,7 +24,7 @@ fn erode_down(buf: &mut [u8], s: Sweep, length: usize)
 // From the erosion of any frame to its opening.
 fn dilate_down(buf: &mut [u8], s: Sweep, length: usize)
     requires { ⌜ Down s (now buf) × (1 ≤ length) × (length ≤ s .majors) ⌝ }
-    ensures { λ _. ⌜ DilatesDown s length length (now (buf .entry)) (now (buf .exit)) ⌝ }
+    ensures { λ _. ⌜ DilatesLines s length length (now (buf .entry)) (now (buf .exit)) ⌝ }
 {
     let mut w = 1;
     while w < length {
@@ -37,7 +36,7 @@ fn dilate_down(buf: &mut [u8], s: Sweep, length: usize)
 
 fn open_down(buf: &mut [u8], s: Sweep, length: usize)
     requires { ⌜ Down s (now buf) × (1 ≤ length) ⌝ }
-    ensures { λ _. ⌜ OpensRows (shift s) (s .major) (s .minors) (s .majors) length (now (buf .entry)) (now (buf .exit)) ⌝ }
+    ensures { λ _. ⌜ OpensLines s length (now (buf .entry)) (now (buf .exit)) ⌝ }
 {
     if s.majors < length {
         clear_rows(buf, s, 0);

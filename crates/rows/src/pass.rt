@@ -6,7 +6,7 @@ ghost use mathlib.Core.Path.{_≡_};
 ghost use Prim.Native.Nat.{ℕ, _+_, _-_, _*_, _≤_, _<_};
 ghost use Rattle.frame.specs.Lines.{r};
 ghost use Rattle.frame.specs.Sweep.{shift, Sane};
-ghost use Rattle.rows.specs.Rows.{RowsAre};
+ghost use Rattle.rows.specs.Rows.{spot, rowsOf, RowsAre};
 ghost use Rattle.rows.specs.Passes.{Down, eroding, dilating};
 
 // How many columns the lines have moved aside at row i.
@@ -30,7 +30,7 @@ fn aside(s: Sweep, i: usize) -> usize
 // The rows whose lines go on e rows further down.
 fn erode_upper(buf: &mut [u8], s: Sweep, e: usize)
     requires { ⌜ Down s (now buf) × (1 ≤ e) × (e ≤ s .majors) ⌝ }
-    ensures { λ _. ⌜ RowsAre (s .major) (s .minors) 0 (s .majors - e) (eroding s e (now (buf .entry))) (now (buf .entry)) (now (buf .exit)) ⌝ }
+    ensures { λ _. ⌜ RowsAre (rowsOf (s .major)) (s .minors) 0 (s .majors - e) (eroding (shift s) (spot s) (s .minors) (s .majors) e (now (buf .entry))) (now (buf .entry)) (now (buf .exit)) ⌝ }
 {
     let rows = s.majors;
     let n = s.minors;
@@ -45,7 +45,7 @@ fn erode_upper(buf: &mut [u8], s: Sweep, e: usize)
 // The rows from `from` on become 0.
 pub(crate) fn clear_rows(buf: &mut [u8], s: Sweep, from: usize)
     requires { ⌜ Down s (now buf) × (from ≤ s .majors) ⌝ }
-    ensures { λ _. ⌜ RowsAre (s .major) (s .minors) from (s .majors) (λ (i k : ℕ). 0) (now (buf .entry)) (now (buf .exit)) ⌝ }
+    ensures { λ _. ⌜ RowsAre (rowsOf (s .major)) (s .minors) from (s .majors) (λ (i k : ℕ). 0) (now (buf .entry)) (now (buf .exit)) ⌝ }
 {
     let rows = s.majors;
     let n = s.minors;
@@ -59,7 +59,7 @@ pub(crate) fn clear_rows(buf: &mut [u8], s: Sweep, from: usize)
 
 pub(crate) fn erode_rows(buf: &mut [u8], s: Sweep, e: usize)
     requires { ⌜ Down s (now buf) × (1 ≤ e) × (e ≤ s .majors) ⌝ }
-    ensures { λ _. ⌜ RowsAre (s .major) (s .minors) 0 (s .majors) (eroding s e (now (buf .entry))) (now (buf .entry)) (now (buf .exit)) ⌝ }
+    ensures { λ _. ⌜ RowsAre (rowsOf (s .major)) (s .minors) 0 (s .majors) (eroding (shift s) (spot s) (s .minors) (s .majors) e (now (buf .entry))) (now (buf .entry)) (now (buf .exit)) ⌝ }
 {
     erode_upper(buf, s, e);
     clear_rows(buf, s, s.majors - e);
@@ -67,7 +67,7 @@ pub(crate) fn erode_rows(buf: &mut [u8], s: Sweep, e: usize)
 
 pub(crate) fn dilate_rows(buf: &mut [u8], s: Sweep, e: usize)
     requires { ⌜ Down s (now buf) × (1 ≤ e) × (e ≤ s .majors) ⌝ }
-    ensures { λ _. ⌜ RowsAre (s .major) (s .minors) e (s .majors) (dilating s e (now (buf .entry))) (now (buf .entry)) (now (buf .exit)) ⌝ }
+    ensures { λ _. ⌜ RowsAre (rowsOf (s .major)) (s .minors) e (s .majors) (dilating (shift s) (spot s) (s .minors) e (now (buf .entry))) (now (buf .entry)) (now (buf .exit)) ⌝ }
 {
     let n = s.minors;
     let stride = s.major;

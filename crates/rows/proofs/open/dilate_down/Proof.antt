@@ -1,23 +1,27 @@
 -- The frame holds its lines dilated by windows of w pixels.
 use mathlib.Core.Path.{_≡_, _∙_, refl}
-use Prim.Native.Nat.{_-_, _≤_}
+use Prim.Native.Nat.{_-_, _≤_, zero-le}
+use native.Mathlib.Nat.{le-refl}
 use native.Mathlib.Omega.{arith}
 use lib.ListN
 use Rattle.frame.specs.Sweep.{shift}
-use Rattle.rows.specs.Passes.{DilatesDown}
-use Rattle.rows.proofs.Downs.{dilated-start, dilated-step, dilates-end}
+use Rattle.rows.specs.Passes.{DilatesLines}
+use Rattle.rows.proofs.Rowwise.{parted-rows, rows-join}
+use Rattle.rows.proofs.Lines.{rows-pixels, dilated-start, dilated-step, dilates-end}
+use Rattle.rows.specs.Rows.{spot}
+use Rattle.rows.proofs.Downs.{side-by-side, rows-before-all}
 use borrow.Author.Needs.{needs}
 use Rattle.rows.proofs.open.dilate_down.Statement.{statement}
 use Rattle.rows.proofs.open.dilate_down.Tie as tie
 
 abbrev Inv-loop : tie.InvT-loop
-Inv-loop buf₀ s length w₀ buf w = (lib.ListN.length buf ≡ lib.ListN.length buf₀) × (1 ≤ w) × (w ≤ length) × DilatesDown s length w buf₀ buf
+Inv-loop buf₀ s length w₀ buf w = (lib.ListN.length buf ≡ lib.ListN.length buf₀) × (1 ≤ w) × (w ≤ length) × DilatesLines s length w buf₀ buf
 
 abbrev μ-loop : tie.MeasureT-loop
 μ-loop buf₀ s length w₀ buf w = length - w
 
 loop-holds : tie.Need-loop-holds Inv-loop μ-loop
-loop-holds c = (refl, search needs, search needs, record { rows = λ f e. dilated-start _ _ _ _ f _ (e .rows) })
+loop-holds c = (refl, search needs, search needs, record { pixels = λ f e. dilated-start _ _ _ _ f _ (e .pixels) })
 
 growth-requires : tie.Need-growth-requires Inv-loop μ-loop
 growth-requires c κs = search needs
@@ -26,7 +30,7 @@ dilate-rows-requires : tie.Need-dilate-rows-requires Inv-loop μ-loop
 dilate-rows-requires c κs =
     let down = c .before .before .before .before .before .pre .0 in
     let at = c .before .before .before .loop in
-    (record { sane = down .sane; apart = down .apart; room = omega (arith, down .room, at .inv .0) }, omega (arith, at .inv, c .before .growth .ensures, c .before .before .loop-test .taken), omega (arith, c .before .before .before .before .before .pre, at .inv, c .before .growth .ensures))
+    (record { sane = down .sane; next = down .next; apart = down .apart; room = omega (arith, down .room, at .inv .0) }, omega (arith, at .inv, c .before .growth .ensures, c .before .before .loop-test .taken), omega (arith, c .before .before .before .before .before .pre, at .inv, c .before .growth .ensures))
 
 add-w : tie.Need-add-w Inv-loop μ-loop
 add-w c = search needs
@@ -41,11 +45,14 @@ loop-again c =
     let pre = c .before .before .before .before .before .before .before .before .pre in
     let at = c .before .before .before .before .before .before .loop in
     let grown = c .before .before .before .before .growth in
-    let pass = c .before .before .dilate-rows in (
+    let pass = c .before .before .dilate-rows in
+    let flat = side-by-side s (pre .0 .next) in
+    let parted = parted-rows (s .major) (s .minors) (s .majors) (pre .0 .apart) in
+    let whole = rows-join parted (rows-before-all (shift s) (spot s) (s .major) (s .minors) (s .majors) (grown .result) flat parted _) (pass .ensures) zero-le (omega (arith, at .inv, pre, grown .ensures)) (le-refl (s .majors)) in (
       pass .kept .0 ∙ at .inv .0,
       omega (arith, at .inv),
       omega (arith, at .inv, grown .ensures),
-      record { rows = λ f e. dilated-step (shift s) (s .major) (s .minors) (s .majors) f length (at .w) (grown .result) (pre .0 .apart) (at .inv .3 .rows f e) (pass .ensures) (omega (arith, at .inv)) (omega (arith, grown .ensures)) },
+      record { pixels = λ f e. dilated-step (shift s) (spot s) (s .minors) (s .majors) f length (at .w) (grown .result) (at .inv .3 .pixels f e) (rows-pixels whole (spot s) flat) (omega (arith, at .inv)) (omega (arith, grown .ensures)) },
     )
 
 same-length : tie.Need-same-length Inv-loop μ-loop

@@ -4,20 +4,22 @@ use Prim.Native.Nat.{_-_, _≤_}
 use native.Mathlib.Omega.{arith}
 use lib.ListN
 use Rattle.frame.specs.Sweep.{shift}
-use Rattle.rows.specs.Passes.{ErodesDown}
-use Rattle.rows.proofs.Downs.{eroded-start, eroded-step, erodes-end}
+use Rattle.rows.specs.Passes.{ErodesLines}
+use Rattle.rows.proofs.Lines.{rows-pixels, eroded-start, eroded-step, erodes-end}
+use Rattle.rows.specs.Rows.{spot}
+use Rattle.rows.proofs.Downs.{side-by-side}
 use borrow.Author.Needs.{needs}
 use Rattle.rows.proofs.open.erode_down.Statement.{statement}
 use Rattle.rows.proofs.open.erode_down.Tie as tie
 
 abbrev Inv-loop : tie.InvT-loop
-Inv-loop buf₀ s length w₀ buf w = (lib.ListN.length buf ≡ lib.ListN.length buf₀) × (1 ≤ w) × (w ≤ length) × ErodesDown s w buf₀ buf
+Inv-loop buf₀ s length w₀ buf w = (lib.ListN.length buf ≡ lib.ListN.length buf₀) × (1 ≤ w) × (w ≤ length) × ErodesLines s w buf₀ buf
 
 abbrev μ-loop : tie.MeasureT-loop
 μ-loop buf₀ s length w₀ buf w = length - w
 
 loop-holds : tie.Need-loop-holds Inv-loop μ-loop
-loop-holds c = (refl, search needs, search needs, record { rows = eroded-start _ _ _ _ _ })
+loop-holds c = (refl, search needs, search needs, record { pixels = eroded-start _ _ _ _ _ })
 
 growth-requires : tie.Need-growth-requires Inv-loop μ-loop
 growth-requires c κs = search needs
@@ -26,7 +28,7 @@ erode-rows-requires : tie.Need-erode-rows-requires Inv-loop μ-loop
 erode-rows-requires c κs =
     let down = c .before .before .before .before .before .pre .0 in
     let at = c .before .before .before .loop in
-    (record { sane = down .sane; apart = down .apart; room = omega (arith, down .room, at .inv .0) }, omega (arith, at .inv, c .before .growth .ensures, c .before .before .loop-test .taken), omega (arith, c .before .before .before .before .before .pre, at .inv, c .before .growth .ensures))
+    (record { sane = down .sane; next = down .next; apart = down .apart; room = omega (arith, down .room, at .inv .0) }, omega (arith, at .inv, c .before .growth .ensures, c .before .before .loop-test .taken), omega (arith, c .before .before .before .before .before .pre, at .inv, c .before .growth .ensures))
 
 add-w : tie.Need-add-w Inv-loop μ-loop
 add-w c = search needs
@@ -45,7 +47,7 @@ loop-again c =
       pass .kept .0 ∙ at .inv .0,
       omega (arith, at .inv),
       omega (arith, at .inv, grown .ensures),
-      record { rows = eroded-step (shift s) (s .major) (s .minors) (s .majors) _ (at .w) (grown .result) (at .inv .3 .rows) (pass .ensures) (omega (arith, at .inv)) (omega (arith, grown .ensures)) },
+      record { pixels = eroded-step (shift s) (spot s) (s .minors) (s .majors) _ (at .w) (grown .result) (at .inv .3 .pixels) (rows-pixels (pass .ensures) (spot s) (side-by-side s (pre .0 .next))) (omega (arith, at .inv)) (omega (arith, grown .ensures)) },
     )
 
 same-length : tie.Need-same-length Inv-loop μ-loop

@@ -3,14 +3,14 @@ use Prim.Native.Nat.{ℕ, _-_, _≤_}
 use native.Mathlib.Omega.{arith}
 use lib.ListN.{length}
 use mathlib.Core.Path.{refl}
-use Rattle.rows.specs.Rows.{RowsAre}
-use Rattle.rows.proofs.Downs.{rows-none, rows-more, rows-end, row-room}
+use Rattle.rows.specs.Rows.{rowsOf, RowsAre}
+use Rattle.rows.proofs.Rowwise.{parted-rows, rows-none, rows-more, rows-end, row-room}
 use borrow.Author.Needs.{needs}
 use Rattle.rows.proofs.pass.clear_rows.Statement.{statement}
 use Rattle.rows.proofs.pass.clear_rows.Tie as tie
 
 abbrev Inv-loop : tie.InvT-loop
-Inv-loop buf₀ from rows n stride i₀ buf i = (from ≤ i) × (i ≤ rows) × RowsAre stride n from i (λ (i k : ℕ). 0) buf₀ buf
+Inv-loop buf₀ from rows n stride i₀ buf i = (from ≤ i) × (i ≤ rows) × RowsAre (rowsOf stride) n from i (λ (i k : ℕ). 0) buf₀ buf
 
 abbrev μ-loop : tie.MeasureT-loop
 μ-loop buf₀ from rows n stride i₀ buf i = rows - i
@@ -42,7 +42,7 @@ loop-again c =
     let at = c .before .before .before .before .before .loop in
     let room = row-room (s .major) (s .minors) (s .majors) (length (c .before .before .before .before .before .before .before .args .buf .now)) (at .i) (omega arith) (down .room) in
     let done = at .inv .2 in
-    (omega arith, omega arith, rows-more (down .apart) done (c .before .before .blacken .ensures .done (omega (arith, done .same))) (λ k h. refl) (omega arith))
+    (omega arith, omega arith, rows-more (parted-rows (s .major) (s .minors) (s .majors) (down .apart)) done (c .before .before .blacken .ensures .done (omega (arith, done .same))) (λ k h. refl) (omega arith) (omega arith))
 
 same-length : tie.Need-same-length Inv-loop μ-loop
 same-length c = c .before .loop .inv .2 .same

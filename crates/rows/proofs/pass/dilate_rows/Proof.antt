@@ -5,15 +5,16 @@ use lib.ListN.{length}
 use mathlib.Core.Path.{_≡_, sym, ap, _∙_}
 use native.Mathlib.Nat.{add-mul, mul-le-mul-right, one-mul}
 use Rattle.frame.specs.Sweep.{shift}
-use Rattle.rows.specs.Rows.{RowsAre}
+use Rattle.rows.specs.Rows.{spot, rowsOf, RowsAre}
 use Rattle.rows.specs.Passes.{dilating}
-use Rattle.rows.proofs.Downs.{rows-none, rows-start, row-room, dilate-more}
+use Rattle.rows.proofs.Rowwise.{parted-rows, rows-none, rows-start, row-room}
+use Rattle.rows.proofs.Downs.{side-by-side, dilate-more}
 use borrow.Author.Needs.{needs}
 use Rattle.rows.proofs.pass.dilate_rows.Statement.{statement}
 use Rattle.rows.proofs.pass.dilate_rows.Tie as tie
 
 abbrev Inv-loop : tie.InvT-loop
-Inv-loop buf₀ s e n stride i₀ buf i = (e ≤ i) × (i ≤ s .majors) × RowsAre stride n i (s .majors) (dilating s e buf₀) buf₀ buf
+Inv-loop buf₀ s e n stride i₀ buf i = (e ≤ i) × (i ≤ s .majors) × RowsAre (rowsOf stride) n i (s .majors) (dilating (shift s) (spot s) n e buf₀) buf₀ buf
 
 abbrev μ-loop : tie.MeasureT-loop
 μ-loop buf₀ s e n stride i₀ buf i = i
@@ -87,7 +88,7 @@ loop-again c =
     let here : c .before .before .before .before .aside .result ≡ shift s (at .i - 1 - e + e) = c .before .before .before .before .aside .ensures .0 ∙ ap (shift s) whole in (
       omega arith,
       omega arith,
-      rows-start (dilate-more (shift s) (s .major) (s .minors) (s .majors) e (down .apart) (at .i) (at .i - 1 - e) _ _ (at .inv .2) (c .before .before .dilate-row .ensures) here (c .before .before .before .aside2 .ensures .0) (omega arith) (omega arith) (omega arith)) (omega arith),
+      rows-start (dilate-more (shift s) (spot s) (s .major) (s .minors) (s .majors) e (side-by-side s (down .next)) (parted-rows (s .major) (s .minors) (s .majors) (down .apart)) (at .i) (at .i - 1 - e) _ _ (at .inv .2) (c .before .before .dilate-row .ensures) here (c .before .before .before .aside2 .ensures .0) (omega arith) (omega arith) (omega arith)) (omega arith),
     )
 
 same-length : tie.Need-same-length Inv-loop μ-loop

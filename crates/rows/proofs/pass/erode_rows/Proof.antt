@@ -1,8 +1,12 @@
 -- The upper rows, and then those whose lines end too soon.
 use Prim.Native.Nat.{zero-le}
 use native.Mathlib.Omega.{arith}
+use Rattle.frame.specs.Sweep.{shift}
+use native.Mathlib.Nat.{le-refl}
+use Rattle.rows.specs.Rows.{spot}
 use Rattle.rows.specs.Passes.{eroding}
-use Rattle.rows.proofs.Downs.{rows-join, rows-as, cut-off}
+use Rattle.rows.proofs.Rowwise.{parted-rows, rows-join, rows-as}
+use Rattle.rows.proofs.Downs.{cut-off}
 use borrow.Author.Needs.{needs}
 use Rattle.rows.proofs.pass.erode_rows.Statement.{statement}
 use Rattle.rows.proofs.pass.erode_rows.Tie as tie
@@ -16,7 +20,7 @@ sub-clear-rows c = search needs
 clear-rows-requires : tie.Need-clear-rows-requires
 clear-rows-requires c κs =
     let down = c .before .before .before .before .before .before .before .pre .0 in
-    (record { sane = down .sane; apart = down .apart; room = omega (arith, down .room, c .before .before .before .before .erode-upper .ensures .same) }, omega arith)
+    (record { sane = down .sane; next = down .next; apart = down .apart; room = omega (arith, down .room, c .before .before .before .before .erode-upper .ensures .same) }, omega arith)
 
 same-length : tie.Need-same-length
 same-length c = search needs
@@ -26,8 +30,8 @@ returns c =
     let s = c .before .before .before .before .before .before .before .before .before .before .args .s in
     let e = c .before .before .before .before .before .before .before .before .before .before .args .e in
     let buf = c .before .before .before .before .before .before .before .before .before .before .args .buf .now in
-    rows-join (c .before .before .before .before .before .before .before .before .before .before .pre .0 .apart) (c .before .before .before .before .before .before .before .erode-upper .ensures)
-    (rows-as (c .before .before .clear-rows .ensures) (eroding s e buf) (λ i k l h n. cut-off i e (s .majors) _ _ (omega arith))) zero-le (omega arith)
+    rows-join (parted-rows (s .major) (s .minors) (s .majors) (c .before .before .before .before .before .before .before .before .before .before .pre .0 .apart)) (c .before .before .before .before .before .before .before .erode-upper .ensures)
+    (rows-as (c .before .before .clear-rows .ensures) (eroding (shift s) (spot s) (s .minors) (s .majors) e buf) (λ i k l h n. cut-off i e (s .majors) _ _ (omega arith))) zero-le (omega arith) (le-refl (s .majors))
 
 pub erode-rows-spec : {M : Type 1} → statement M
 erode-rows-spec =

@@ -4,15 +4,16 @@ use native.Mathlib.Omega.{arith}
 use lib.ListN.{length}
 use native.Mathlib.Nat.{add-mul, mul-le-mul-right, one-mul}
 use Rattle.frame.specs.Sweep.{shift}
-use Rattle.rows.specs.Rows.{RowsAre}
+use Rattle.rows.specs.Rows.{spot, rowsOf, RowsAre}
 use Rattle.rows.specs.Passes.{eroding}
-use Rattle.rows.proofs.Downs.{rows-none, rows-end, row-room, erode-more}
+use Rattle.rows.proofs.Rowwise.{parted-rows, rows-none, rows-end, row-room}
+use Rattle.rows.proofs.Downs.{side-by-side, erode-more}
 use borrow.Author.Needs.{needs}
 use Rattle.rows.proofs.pass.erode_upper.Statement.{statement}
 use Rattle.rows.proofs.pass.erode_upper.Tie as tie
 
 abbrev Inv-loop : tie.InvT-loop
-Inv-loop buf₀ s e rows n stride i₀ buf i = (i ≤ rows - e) × RowsAre stride n 0 i (eroding s e buf₀) buf₀ buf
+Inv-loop buf₀ s e rows n stride i₀ buf i = (i ≤ rows - e) × RowsAre (rowsOf stride) n 0 i (eroding (shift s) (spot s) n rows e buf₀) buf₀ buf
 
 abbrev μ-loop : tie.MeasureT-loop
 μ-loop buf₀ s e rows n stride i₀ buf i = rows - e - i
@@ -79,7 +80,7 @@ loop-again c =
     let e = c .before .before .before .before .before .before .before .before .before .args .e in
     let down = c .before .before .before .before .before .before .before .before .before .pre .0 in
     let at = c .before .before .before .before .before .before .before .loop in
-    (omega arith, erode-more (shift s) (s .major) (s .minors) (s .majors) e (down .apart) (at .i) _ _ (at .inv .1) (c .before .before .erode-row .ensures) (c .before .before .before .before .aside .ensures .0) (c .before .before .before .aside2 .ensures .0) (omega arith))
+    (omega arith, erode-more (shift s) (spot s) (s .major) (s .minors) (s .majors) e (side-by-side s (down .next)) (parted-rows (s .major) (s .minors) (s .majors) (down .apart)) (at .i) _ _ (at .inv .1) (c .before .before .erode-row .ensures) (c .before .before .before .before .aside .ensures .0) (c .before .before .before .aside2 .ensures .0) (omega arith))
 
 same-length : tie.Need-same-length Inv-loop μ-loop
 same-length c = c .before .loop .inv .1 .same

@@ -1,0 +1,189 @@
+-- The passes of an opening, for lines that go any way in a frame whose pixels stand in any way.
+--   lane-in, lane-left, lane-right, lane-pixel    line u's pixel at i, or none
+--   rows-pixels, columns-pixels         a pass over rows, where the major coordinate counts the rows, or the columns
+--   pixels-as                           pixels known by an equation
+--   eroded-start, eroded-step           the passes of an erosion
+--   dilated-start, dilated-step, dilated-end    the passes of a dilation, up to the opening
+--   opened-none                         lines shorter than the window
+--   erodes-end, dilates-end             the window length known by an equation
+-- Assumes nothing.
+use mathlib.Core.Path.{_≡_, refl, sym, ap, ap₂, _∙_, subst}
+use mathlib.Core.Bool.{cond}
+use mathlib.Core.List.{List}
+use mathlib.Core.Logic.{⊎-elim}
+use Prim.Native.Nat.{ℕ, _+_, _-_, _≤_, _<_, min, max, zero-le}
+use native.Mathlib.Omega.{arith}
+use lib.Dec.{ltb}
+use lib.ListN.{length, getD}
+use borrow.Author.Tests.{le-leb, lt-leb, lt-ltb, le-ltb}
+use Rattle.lists.proofs.Cases.{less-or-not}
+use Rattle.lists.proofs.Tables.{length-table, getD-table}
+use Rattle.line.specs.Windows.{opened}
+use Rattle.line.specs.Passes.{erodedTo, reopened}
+use Rattle.line.proofs.Windows.{opened-at}
+use Rattle.line.proofs.Passes.{opened-at-short}
+use Rattle.line.proofs.Rims.{eroded-to-one, eroded-to-more, eroded-to-out, eroded-to-dark, reopened-one, reopened-near, reopened-more, reopened-dark, reopened-whole}
+use Rattle.frame.specs.declared.sweep.Sweep.{Sweep}
+use Rattle.rows.specs.Rows.{laneAt, lane, PixelsAre, RowsAre}
+use Rattle.rows.specs.Passes.{eroding, dilating, ErodesLines, DilatesLines}
+
+-- ---- a line's pixels
+
+module _ (h : ℕ → ℕ) (A : ℕ → ℕ → ℕ) (N : ℕ) (g : List ℕ) where
+  pub lane-in : (u i : ℕ) → h i ≤ u → u < h i + N → laneAt h A N g u i ≡ getD g (A i (u - h i)) 0
+  unfolding laneAt
+  lane-in u i lo hi = rw (le-leb (h i) u lo, lt-ltb u (h i + N) hi)
+
+  pub lane-left : (u i : ℕ) → u < h i → laneAt h A N g u i ≡ 0
+  unfolding laneAt
+  lane-left u i out = rw (lt-leb (h i) u out)
+
+  pub lane-right : (u i : ℕ) → h i ≤ u → h i + N ≤ u → laneAt h A N g u i ≡ 0
+  unfolding laneAt
+  lane-right u i lo out = rw (le-leb (h i) u lo, le-ltb u (h i + N) out)
+
+  pub lane-pixel : (i k : ℕ) → k < N → laneAt h A N g (k + h i) i ≡ getD g (A i k) 0
+  lane-pixel i k in′ =
+      let e : k + h i - h i ≡ k = omega arith in
+      lane-in (k + h i) i (omega arith) (omega arith) ∙ ap (λ (m : ℕ). getD g (A i m) 0) e
+
+-- a property of a line's value at i: of its pixel there, and of 0 where it has none in any frame
+lane-cases : (h : ℕ → ℕ) (A : ℕ → ℕ → ℕ) (N : ℕ) (g : List ℕ) (P : ℕ → Type 0) (u i : ℕ) → ((k : ℕ) → k < N → u ≡ k + h i → P (getD g (A i k) 0))
+    → (((f : List ℕ) → laneAt h A N f u i ≡ 0) → P 0) → P (laneAt h A N g u i)
+lane-cases h A N g P u i pixel none =
+    ⊎-elim
+    (λ left. subst P (sym (lane-left h A N g u i left)) (none (λ f. lane-left h A N f u i left)))
+    (λ from.
+    ⊎-elim
+    (λ in′. subst P (sym (lane-in h A N g u i from in′)) (pixel (u - h i) (omega arith) (omega arith)))
+    (λ right. subst P (sym (lane-right h A N g u i from right)) (none (λ f. lane-right h A N f u i from right)))
+    (less-or-not u (h i + N)))
+    (less-or-not u (h i))
+
+-- ---- a pass over rows, as one over the pixels of lines
+
+pub rows-pixels : {st : ℕ → ℕ} {N M : ℕ} {F : ℕ → ℕ → ℕ} {b a : List ℕ} → RowsAre st N 0 M F b a → (A : ℕ → ℕ → ℕ) → ((i k : ℕ) → A i k ≡ st i + k)
+    → PixelsAre A M N F b a
+rows-pixels {st} {N} {M} {F} {b} {a} r A e =
+    record {
+      same = r .same;
+      within = λ i k l n. ap (λ (x : ℕ). getD a x 0) (e i k) ∙ r .within i k zero-le l n;
+      other = λ x none. r .other x (λ i k l h n q. none i k h n (q ∙ sym (e i k)));
+    }
+
+-- row t holds the pixels k of all columns, where k and t determine each other
+pub columns-pixels : {st : ℕ → ℕ} {N M : ℕ} {F : ℕ → ℕ → ℕ} {b a : List ℕ} → RowsAre st M 0 N F b a → (A : ℕ → ℕ → ℕ) (row : ℕ → ℕ)
+    → ((k : ℕ) → k < N → row k < N) → ((t : ℕ) → t < N → row (row t) ≡ t) → ((i k : ℕ) → k < N → A i k ≡ st (row k) + i)
+    → PixelsAre A M N (λ (i k : ℕ). F (row k) i) b a
+columns-pixels {st} {N} {M} {F} {b} {a} r A row in′ back e =
+    record {
+      same = r .same;
+      within = λ i k l n. ap (λ (x : ℕ). getD a x 0) (e i k n) ∙ r .within (row k) i zero-le (in′ k n) l;
+      other = λ x none.
+          r .other x
+          (λ t i l h n q. none i (row t) n (in′ t h) (q ∙ ap (λ (m : ℕ). st m + i) (sym (back t h)) ∙ sym (e i (row t) (in′ t h))));
+    }
+
+pub pixels-as : {A : ℕ → ℕ → ℕ} {M N : ℕ} {F : ℕ → ℕ → ℕ} {b a : List ℕ} → PixelsAre A M N F b a → (G : ℕ → ℕ → ℕ)
+    → ((i k : ℕ) → i < M → k < N → F i k ≡ G i k) → PixelsAre A M N G b a
+pixels-as r G e = record { same = r .same; within = λ i k l n. r .within i k l n ∙ e i k l n; other = r .other }
+
+-- ---- the passes of an opening, for the lines of the frame f
+
+module _ (h : ℕ → ℕ) (A : ℕ → ℕ → ℕ) (N M : ℕ) (f : List ℕ) where
+  line-length : (u : ℕ) → length (lane h A N M f u) ≡ M
+  line-length u = length-table (laneAt h A N f u) M
+
+  line-at : (u i : ℕ) → i < M → getD (lane h A N M f u) i 0 ≡ laneAt h A N f u i
+  line-at u i l = getD-table 0 (laneAt h A N f u) M i l
+
+  -- a frame that holds B u i at line u's pixel at i, where B is 0 off the frame
+  held : {B : ℕ → ℕ → ℕ} {g : List ℕ} → PixelsAre A M N (λ (i k : ℕ). B (k + h i) i) f g → ((u i : ℕ) → i < M → getD (lane h A N M f u) i 0 ≡ 0 → B u i ≡ 0)
+      → (u i : ℕ) → i < M → laneAt h A N g u i ≡ B u i
+  held {B} {g} r dark u i l =
+      lane-cases h A N g (λ (v : ℕ). v ≡ B u i) u i
+      (λ k n e. r .within i k l n ∙ ap (λ (m : ℕ). B m i) (sym e))
+      (λ none. sym (dark u i l (line-at u i l ∙ none f)))
+
+  pub eroded-start : PixelsAre A M N (λ (i k : ℕ). erodedTo (lane h A N M f (k + h i)) 1 i) f f
+  eroded-start =
+      record {
+        same = refl;
+        within = λ i k b n.
+            sym (eroded-to-one (lane h A N M f (k + h i)) i (omega (arith, line-length (k + h i))) ∙ line-at (k + h i) i b ∙ lane-pixel h A N f i k n);
+        other = λ x none. refl;
+      }
+
+  pub eroded-step : {g g′ : List ℕ} (w e : ℕ) → PixelsAre A M N (λ (i k : ℕ). erodedTo (lane h A N M f (k + h i)) w i) f g
+      → PixelsAre A M N (eroding h A N M e g) g g′ → 0 < w → e ≤ w → PixelsAre A M N (λ (i k : ℕ). erodedTo (lane h A N M f (k + h i)) (w + e) i) f g′
+  eroded-step {g} {g′} w e r p some small =
+      record {
+        same = p .same ∙ r .same;
+        within = λ i k b n.
+            p .within i k b n
+            ∙ ap₂ min (r .within i k b n) (ahead (k + h i) (i + e))
+            ∙ sym (eroded-to-more (lane h A N M f (k + h i)) w e i some small);
+        other = λ x none. p .other x none ∙ r .other x none;
+      }
+    where
+      ahead : (u j : ℕ) → cond (ltb j M) (laneAt h A N g u j) 0 ≡ erodedTo (lane h A N M f u) w j
+      ahead u j =
+          ⊎-elim
+          (λ in′.
+          rw (lt-ltb j M in′)
+          (held {B = λ (u i : ℕ). erodedTo (lane h A N M f u) w i} r (λ v i l dark. eroded-to-dark (lane h A N M f v) w i some dark) u j in′))
+          (λ out. rw (le-ltb j M out) (sym (eroded-to-out (lane h A N M f u) w j some (omega (arith, line-length u)))))
+          (less-or-not j M)
+
+  pub dilated-start : {g : List ℕ} (L : ℕ) → PixelsAre A M N (λ (i k : ℕ). erodedTo (lane h A N M f (k + h i)) L i) f g
+      → PixelsAre A M N (λ (i k : ℕ). reopened (lane h A N M f (k + h i)) L 1 i) f g
+  dilated-start L r =
+      pixels-as r (λ (i k : ℕ). reopened (lane h A N M f (k + h i)) L 1 i)
+      (λ i k b n. sym (reopened-one (lane h A N M f (k + h i)) L i (omega (arith, line-length (k + h i)))))
+
+  pub dilated-step : {g g′ : List ℕ} (L w e : ℕ) → PixelsAre A M N (λ (i k : ℕ). reopened (lane h A N M f (k + h i)) L w i) f g
+      → PixelsAre A M N (dilating h A N e g) g g′ → w ≤ L → e ≤ w → PixelsAre A M N (λ (i k : ℕ). reopened (lane h A N M f (k + h i)) L (w + e) i) f g′
+  dilated-step {g} {g′} L w e r p short small =
+      record {
+        same = p .same ∙ r .same;
+        within = λ i k b n. p .within i k b n ∙ ap₂ max (r .within i k b n) refl ∙ grown i k b;
+        other = λ x none. p .other x none ∙ r .other x none;
+      }
+    where
+      grown : (i k : ℕ) → i < M
+          → max (reopened (lane h A N M f (k + h i)) L w i) (cond (ltb i e) 0 (laneAt h A N g (k + h i) (i - e)))
+          ≡ reopened (lane h A N M f (k + h i)) L (w + e) i
+      grown i k b =
+          ⊎-elim
+          (λ near. rw (lt-ltb i e near) (omega (arith, reopened-near (lane h A N M f (k + h i)) L w e i small near)))
+          (λ far.
+          rw (le-ltb i e far)
+          (ap (max (reopened (lane h A N M f (k + h i)) L w i))
+          (held {B = λ (u i : ℕ). reopened (lane h A N M f u) L w i} r (λ v j q dark. reopened-dark (lane h A N M f v) L w j short dark) (k + h i) (i - e) (omega arith))
+          ∙ sym (reopened-more (lane h A N M f (k + h i)) L w e i small far)))
+          (less-or-not i e)
+
+  pub dilated-end : {g : List ℕ} (L : ℕ) → 0 < L → PixelsAre A M N (λ (i k : ℕ). reopened (lane h A N M f (k + h i)) L L i) f g
+      → PixelsAre A M N (λ (i k : ℕ). getD (opened (lane h A N M f (k + h i)) L) i 0) f g
+  dilated-end L some r =
+      pixels-as r (λ (i k : ℕ). getD (opened (lane h A N M f (k + h i)) L) i 0)
+      (λ i k b n.
+      reopened-whole (lane h A N M f (k + h i)) L i some
+      ∙ sym (opened-at (lane h A N M f (k + h i)) L i (omega (arith, line-length (k + h i)))))
+
+  pub opened-none : {g : List ℕ} (L : ℕ) → M < L → PixelsAre A M N (λ (i k : ℕ). 0) f g
+      → PixelsAre A M N (λ (i k : ℕ). getD (opened (lane h A N M f (k + h i)) L) i 0) f g
+  opened-none L short r =
+      pixels-as r (λ (i k : ℕ). getD (opened (lane h A N M f (k + h i)) L) i 0)
+      (λ i k b n.
+      sym
+      (opened-at (lane h A N M f (k + h i)) L i (omega (arith, line-length (k + h i)))
+      ∙ opened-at-short (lane h A N M f (k + h i)) L i (omega (arith, line-length (k + h i)))))
+
+-- ---- the window length known by an equation
+
+pub erodes-end : {s : Sweep} {w v : ℕ} {b a : List ℕ} → ErodesLines s w b a → w ≡ v → ErodesLines s v b a
+erodes-end {s} {w} {v} {b} {a} r e = subst (λ (m : ℕ). ErodesLines s m b a) e r
+
+pub dilates-end : {s : Sweep} {L w v : ℕ} {b a : List ℕ} → DilatesLines s L w b a → w ≡ v → DilatesLines s L v b a
+dilates-end {s} {L} {w} {v} {b} {a} r e = subst (λ (m : ℕ). DilatesLines s L m b a) e r
