@@ -10,12 +10,14 @@
 --   startOf up N S t     where row t starts, counted from the last of N rows where `up`
 --   aheadAt up N S g t j d   the pixel in column j, d rows past row t in this order; 0 where there is none
 --   Bends a b e d n m    the marks m say, for the n columns from 0 on, whether a line that rises b in a run of a goes d or d + 1 rows aside in the next e columns
+--   Rest a b x rest      what the rounding of r at x leaves over
 --   rowsOn d m x         so many rows, by the mark of column x
---   eroded, dilated      what a pass makes of the pixel in column x of row t, by the marks
+--   onward, backward     the pixel's neighbour on its line e columns on, or before, by the marks
+--   eroded, dilated      what a pass makes of the pixel in column x of row t
 --   bent m g near far j  byte j of one of two rows of g, which start at `near` and `far`: of the near one where the mark j of m is 0
 --   Ahead at p n         an upward pass over the n bytes from `at` on finds those from p on as they were
 --   Behind at p n        the same of a downward pass
--- Laws: rows/proofs/Lines, Downs, Slants.
+-- Laws: rows/proofs/Lines, Downs, Bents, Bends, Slants.
 use mathlib.Core.Path.{_≡_}
 use mathlib.Core.Bool.{Bool, cond}
 use mathlib.Core.List.{List}
@@ -74,18 +76,25 @@ rowsOn d m x = cond (eqb (getD m x 0) 0) d (d + 1)
 abbrev pub Bends : ℕ → ℕ → ℕ → ℕ → ℕ → List ℕ → Type 0
 Bends a b e d n m = (x : ℕ) → x < n → r a b (x + e) ≡ r a b x + rowsOn d m x
 
+-- the line's pixel e columns on, and e columns before; 0 where there is none
+unfoldable pub onward : Sweep → Bool → List ℕ → ℕ → ℕ → List ℕ → ℕ → ℕ → ℕ
+onward s up m e d g t x = cond (ltb (x + e) (s .majors)) (aheadAt up (s .minors) (s .minor) g t (x + e) (rowsOn d m x)) 0
+
+unfoldable pub backward : Sweep → Bool → List ℕ → ℕ → ℕ → List ℕ → ℕ → ℕ → ℕ
+backward s up m e d g t x = cond (ltb x e) 0 (aheadAt up (s .minors) (s .minor) g t (x - e) (rowsOn d m (x - e)))
+
 abbrev pub eroded : Sweep → Bool → List ℕ → ℕ → ℕ → List ℕ → ℕ → ℕ → ℕ
-eroded s up m e d g t x =
-    min (getD g (startOf up (s .minors) (s .minor) t + x) 0)
-    (cond (ltb (x + e) (s .majors)) (aheadAt up (s .minors) (s .minor) g t (x + e) (rowsOn d m x)) 0)
+eroded s up m e d g t x = min (getD g (startOf up (s .minors) (s .minor) t + x) 0) (onward s up m e d g t x)
 
 abbrev pub dilated : Sweep → Bool → List ℕ → ℕ → ℕ → List ℕ → ℕ → ℕ → ℕ
-dilated s up m e d g t x =
-    max (getD g (startOf up (s .minors) (s .minor) t + x) 0)
-    (cond (ltb x e) 0 (aheadAt up (s .minors) (s .minor) g t (x - e) (rowsOn d m (x - e))))
+dilated s up m e d g t x = max (getD g (startOf up (s .minors) (s .minor) t + x) 0) (backward s up m e d g t x)
 
 unfoldable pub bent : List ℕ → List ℕ → ℕ → ℕ → ℕ → ℕ
 bent m g near far j = cond (eqb (getD m j 0) 0) (getD g (near + j) 0) (getD g (far + j) 0)
+
+pub record Rest (a b x rest : ℕ) : Type 0 where
+  pub sum : r a b x * (2 * a) + rest ≡ 2 * x * b + a
+  pub below : rest < 2 * a
 
 abbrev pub Ahead : ℕ → ℕ → ℕ → Type 0
 Ahead at p n = (at ≤ p) ⊎ (p + n ≤ at)

@@ -39,7 +39,7 @@ fn open_down(buf: &mut [u8], s: Sweep, length: usize)
     ensures { λ _. ⌜ OpensLines s length (now (buf .entry)) (now (buf .exit)) ⌝ }
 {
     if s.majors < length {
-        clear_rows(buf, s, 0);
+        clear_rows(buf, s.major, s.minors, 0, s.majors);
         return;
     }
     erode_down(buf, s, length);

@@ -4,6 +4,7 @@ use crate::row::erode_row;
 use frame::Sweep;
 ghost use mathlib.Core.Path.{_≡_};
 ghost use Prim.Native.Nat.{ℕ, _+_, _-_, _*_, _≤_, _<_};
+ghost use lib.ListN.{length};
 ghost use Rattle.frame.specs.Lines.{r};
 ghost use Rattle.frame.specs.Sweep.{shift, Sane};
 ghost use Rattle.rows.specs.Rows.{spot, rowsOf, RowsAre};
@@ -42,16 +43,13 @@ fn erode_upper(buf: &mut [u8], s: Sweep, e: usize)
     }
 }
 
-// The rows from `from` on become 0.
-pub(crate) fn clear_rows(buf: &mut [u8], s: Sweep, from: usize)
-    requires { ⌜ Down s (now buf) × (from ≤ s .majors) ⌝ }
-    ensures { λ _. ⌜ RowsAre (rowsOf (s .major)) (s .minors) from (s .majors) (λ (i k : ℕ). 0) (now (buf .entry)) (now (buf .exit)) ⌝ }
+// Of the rows of n pixels that stand `stride` apart, those from `from` up to, not including, `to` become 0.
+pub(crate) fn clear_rows(buf: &mut [u8], stride: usize, n: usize, from: usize, to: usize)
+    requires { ⌜ (n ≤ stride) × (from ≤ to) × ((to - 1) * stride + n ≤ length (now buf)) ⌝ }
+    ensures { λ _. ⌜ RowsAre (rowsOf stride) n from to (λ (i k : ℕ). 0) (now (buf .entry)) (now (buf .exit)) ⌝ }
 {
-    let rows = s.majors;
-    let n = s.minors;
-    let stride = s.major;
     let mut i = from;
-    while i < rows {
+    while i < to {
         line::blacken(buf, i * stride, n);
         i += 1;
     }
@@ -62,7 +60,7 @@ pub(crate) fn erode_rows(buf: &mut [u8], s: Sweep, e: usize)
     ensures { λ _. ⌜ RowsAre (rowsOf (s .major)) (s .minors) 0 (s .majors) (eroding (shift s) (spot s) (s .minors) (s .majors) e (now (buf .entry))) (now (buf .entry)) (now (buf .exit)) ⌝ }
 {
     erode_upper(buf, s, e);
-    clear_rows(buf, s, s.majors - e);
+    clear_rows(buf, s.major, s.minors, s.majors - e, s.majors);
 }
 
 pub(crate) fn dilate_rows(buf: &mut [u8], s: Sweep, e: usize)

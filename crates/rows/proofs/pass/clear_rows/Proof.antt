@@ -10,20 +10,19 @@ use Rattle.rows.proofs.pass.clear_rows.Statement.{statement}
 use Rattle.rows.proofs.pass.clear_rows.Tie as tie
 
 abbrev Inv-loop : tie.InvT-loop
-Inv-loop buf₀ from rows n stride i₀ buf i = (from ≤ i) × (i ≤ rows) × RowsAre (rowsOf stride) n from i (λ (i k : ℕ). 0) buf₀ buf
+Inv-loop buf₀ stride n from to i₀ buf i = (from ≤ i) × (i ≤ to) × RowsAre (rowsOf stride) n from i (λ (i k : ℕ). 0) buf₀ buf
 
 abbrev μ-loop : tie.MeasureT-loop
-μ-loop buf₀ from rows n stride i₀ buf i = rows - i
+μ-loop buf₀ stride n from to i₀ buf i = to - i
 
 loop-holds : tie.Need-loop-holds Inv-loop μ-loop
 loop-holds c = (search needs, search needs, rows-none _ _ _ _ _)
 
 mul-blacken : tie.Need-mul-blacken Inv-loop μ-loop
 mul-blacken c =
-    let s = c .before .before .before .before .args .s in
-    let down = c .before .before .before .before .pre .0 in
+    let args = c .before .before .before .before .args in
     let at = c .before .before .loop in
-    let room = row-room (s .major) (s .minors) (s .majors) (length (c .before .before .before .before .args .buf .now)) (at .i) (omega arith) (down .room) in
+    let room = row-room (args .stride) (args .n) (args .to) (length (args .buf .now)) (at .i) (omega arith) (c .before .before .before .before .pre .2) in
     omega arith
 
 blacken-requires : tie.Need-blacken-requires Inv-loop μ-loop
@@ -37,12 +36,12 @@ loop-less c = search needs
 
 loop-again : tie.Need-loop-again Inv-loop μ-loop
 loop-again c =
-    let s = c .before .before .before .before .before .before .before .args .s in
-    let down = c .before .before .before .before .before .before .before .pre .0 in
+    let args = c .before .before .before .before .before .before .before .args in
+    let pre = c .before .before .before .before .before .before .before .pre in
     let at = c .before .before .before .before .before .loop in
-    let room = row-room (s .major) (s .minors) (s .majors) (length (c .before .before .before .before .before .before .before .args .buf .now)) (at .i) (omega arith) (down .room) in
+    let room = row-room (args .stride) (args .n) (args .to) (length (args .buf .now)) (at .i) (omega arith) (pre .2) in
     let done = at .inv .2 in
-    (omega arith, omega arith, rows-more (parted-rows (s .major) (s .minors) (s .majors) (down .apart)) done (c .before .before .blacken .ensures .done (omega (arith, done .same))) (λ k h. refl) (omega arith) (omega arith))
+    (omega arith, omega arith, rows-more (parted-rows (args .stride) (args .n) (args .to) (pre .0)) done (c .before .before .blacken .ensures .done (omega (arith, done .same))) (λ k h. refl) (omega arith) (omega arith))
 
 same-length : tie.Need-same-length Inv-loop μ-loop
 same-length c = c .before .loop .inv .2 .same

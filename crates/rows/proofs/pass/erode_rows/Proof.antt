@@ -20,7 +20,7 @@ sub-clear-rows c = search needs
 clear-rows-requires : tie.Need-clear-rows-requires
 clear-rows-requires c κs =
     let down = c .before .before .before .before .before .before .before .pre .0 in
-    (record { sane = down .sane; next = down .next; apart = down .apart; room = omega (arith, down .room, c .before .before .before .before .erode-upper .ensures .same) }, omega arith)
+    (down .apart, omega arith, omega (arith, down .room, c .before .before .before .before .erode-upper .ensures .same))
 
 same-length : tie.Need-same-length
 same-length c = search needs

@@ -1,0 +1,92 @@
+-- Which columns of a row bend: the rest of the division that rounds, carried from column to column.
+--   r-by                              r by quotient and rest
+--   rest-start, rest-stay, rest-step  the rest at column 0, and one column on
+--   over-fits, over-small             what e columns have over, past the rows that they make for sure
+--   small-product                     a product of an accepted size
+--   bend-marked                       a column's mark, by its rest
+--   bends-more                        one mark more
+-- Assumes nothing.
+use mathlib.Core.Path.{_≡_, sym, ap, _∙_, subst}
+use mathlib.Core.Bool.{cond}
+use mathlib.Core.List.{List}
+use mathlib.Core.Logic.{⊎-elim}
+use Prim.Native.Nat.{ℕ, _+_, _-_, _*_, _/_, _≤_, _<_}
+use native.Mathlib.Nat.{eq-or-lt-of-le, add-mul, mul-add, mul-assoc, mul-comm, mul-le-mul, one-mul, div-add-mod', mod-lt, add-mul-div-right, div-eq-of-lt}
+use native.Mathlib.Omega.{arith}
+use lib.Dec.{eqb, ltb}
+use lib.ListN.{length, getD, set}
+use lib.Seq.{getD-set-same, getD-set-other}
+use borrow.Author.Tests.{lt-ltb, le-ltb}
+use Rattle.lists.proofs.Cases.{less-or-not}
+use Rattle.frame.specs.Lines as lines
+use Rattle.frame.specs.Lines.{r}
+use Rattle.rows.specs.Passes.{Bends, Rest}
+
+pub r-by : (a b i n rest : ℕ) → n * (2 * a) + rest ≡ 2 * i * b + a → rest < 2 * a → r a b i ≡ n
+unfolding lines.r
+r-by a b i n rest sum below =
+    let e : rest + n * (2 * a) ≡ 2 * i * b + a = omega (arith, sum) in
+    let z : (rest + n * (2 * a)) / (2 * a) ≡ n =
+    add-mul-div-right rest n {z = 2 * a} (omega arith) ∙ ap (λ (x : ℕ). x + n) (div-eq-of-lt below) ∙ omega arith in
+    sym (ap (λ (x : ℕ). x / (2 * a)) e) ∙ z
+
+rest-by : {a b x : ℕ} (n : ℕ) {rest : ℕ} → n * (2 * a) + rest ≡ 2 * x * b + a → rest < 2 * a → Rest a b x rest
+rest-by {a} {b} {x} n {rest} sum below = record { sum = ap (λ (k : ℕ). k * (2 * a) + rest) (r-by a b x n rest sum below) ∙ sum; below = below }
+
+pub rest-start : (a b : ℕ) → 1 ≤ a → Rest a b 0 a
+rest-start a b some = rest-by 0 (omega arith) (omega arith)
+
+further : (x e b : ℕ) → 2 * (x + e) * b ≡ 2 * x * b + 2 * e * b
+further x e b = ap (λ (n : ℕ). n * b) (mul-add 2 x e) ∙ add-mul (2 * x) (2 * e) b
+
+once : (k a : ℕ) → (k + 1) * a ≡ k * a + a
+once k a = add-mul k 1 a ∙ ap (λ (x : ℕ). k * a + x) (one-mul a)
+
+pub rest-stay : {a b x rest : ℕ} → Rest a b x rest → rest + 2 * b < 2 * a → Rest a b (x + 1) (rest + 2 * b)
+rest-stay {a} {b} {x} {rest} p h = rest-by (r a b x) (omega (arith, p .sum, further x 1 b)) h
+
+pub rest-step : {a b x rest : ℕ} → Rest a b x rest → b ≤ a → 2 * a ≤ rest + 2 * b → Rest a b (x + 1) (rest + 2 * b - 2 * a)
+rest-step {a} {b} {x} {rest} p slow h =
+    rest-by (r a b x + 1) (omega (arith, p .sum, further x 1 b, once (r a b x) (2 * a))) (omega (arith, p .below))
+
+pub small-product : (e b : ℕ) → e ≤ 4096 → b ≤ 255 → e * b ≤ 4096 * 255
+small-product e b h k = mul-le-mul {n₁ = e} {m₁ = b} {n₂ = 4096} {m₂ = 255} h k
+
+module _ (a b e d : ℕ) (some : 1 ≤ a) (rows : d ≡ e * b / a) where
+  pub over-fits : d * a ≤ e * b
+  over-fits = omega (arith, div-add-mod' (e * b) a, ap (λ (k : ℕ). k * a) rows)
+
+  pub over-small : 2 * (e * b - d * a) < 2 * a
+  over-small = omega (arith, div-add-mod' (e * b) a, ap (λ (k : ℕ). k * a) rows, mod-lt (e * b) some)
+
+  over-sum : d * (2 * a) + 2 * (e * b - d * a) ≡ 2 * e * b
+  over-sum =
+      let twice : d * (2 * a) ≡ 2 * (d * a) = sym (mul-assoc d 2 a) ∙ ap (λ (k : ℕ). k * a) (mul-comm d 2) ∙ mul-assoc 2 d a in
+      omega (arith, twice, over-fits, mul-assoc 2 e b)
+
+  -- the rest at x and what is over make a row more, or not
+  pub bend-marked : {x rest : ℕ} → Rest a b x rest
+      → r a b (x + e) ≡ r a b x + cond (eqb (cond (ltb (rest + 2 * (e * b - d * a)) (2 * a)) 0 1) 0) d (d + 1)
+  bend-marked {x} {rest} p =
+      let n = r a b x in
+      let over = 2 * (e * b - d * a) in
+      ⊎-elim
+      (λ short.
+      rw (lt-ltb (rest + over) (2 * a) short)
+      (r-by a b (x + e) (n + d) (rest + over) (omega (arith, p .sum, over-sum, further x e b, add-mul n d (2 * a))) short))
+      (λ long.
+      rw (le-ltb (rest + over) (2 * a) long)
+      (r-by a b (x + e) (n + (d + 1)) (rest + over - 2 * a)
+      (omega (arith, p .sum, over-sum, further x e b, add-mul n (d + 1) (2 * a), once d (2 * a), long))
+      (omega (arith, p .below, over-small))))
+      (less-or-not (rest + over) (2 * a))
+
+pub bends-more : (a b e d x v : ℕ) (m : List ℕ) → Bends a b e d x m → x < length m → r a b (x + e) ≡ r a b x + cond (eqb v 0) d (d + 1)
+    → Bends a b e d (x + 1) (set m x v)
+bends-more a b e d x v m f room here y h =
+    ⊎-elim
+    (λ q.
+    subst (λ (k : ℕ). r a b (k + e) ≡ r a b k + cond (eqb (getD (set m x v) k 0) 0) d (d + 1)) (sym q)
+    (here ∙ ap (λ (k : ℕ). r a b x + cond (eqb k 0) d (d + 1)) (sym (getD-set-same m x v 0 room))))
+    (λ q. f y q ∙ ap (λ (k : ℕ). r a b y + cond (eqb k 0) d (d + 1)) (sym (getD-set-other m x y v 0 (omega arith))))
+    (eq-or-lt-of-le {n = y} {m = x} (omega arith))

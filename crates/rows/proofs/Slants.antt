@@ -1,0 +1,449 @@
+-- A pass over all rows, where lines go along them and bend from one to the next.
+--   Rows in the order in which the lines cross them:
+--   start-down, start-up       where row t starts
+--   parted-slants, start-room  rows do not meet, and are in the buffer
+--   slant-ahead, slant-behind  what a row asks for is as it was
+--   ahead-in, ahead-out        the pixel d rows past row t, or none
+--   One row:
+--   slant-near, slant-far      the row that the marks choose
+--   erode-gone, erode-last, erode-both      an erosion's row, where none, one or both of the rows that it asks for are in the frame
+--   dilate-gone, dilate-last, dilate-both   a dilation's row, likewise
+--   All rows:
+--   erode-more, dilate-more    one row more
+--   eroded-lines, dilated-lines    the pass, for every line
+-- Assumes nothing.
+use mathlib.Core.Path.{_≡_, refl, sym, ap, ap₂, _∙_, subst}
+use mathlib.Core.Bool.{Bool, true, false, not, cond}
+use mathlib.Core.List.{List}
+use mathlib.Core.Logic.{_⊎_, inl, inr, ⊎-elim}
+use Prim.Native.Nat.{ℕ, _+_, _-_, _*_, _≤_, _<_, min, max, zero-le}
+use native.Mathlib.Nat.{mul-one, le-refl}
+use native.Mathlib.Omega.{arith}
+use lib.Dec.{eqb, ltb}
+use lib.ListN.{length, getD}
+use borrow.Author.Tests.{lt-ltb, le-ltb}
+use Rattle.lists.specs.Stores.{Filled}
+use Rattle.lists.proofs.Cases.{less-or-not}
+use Rattle.line.specs.Parts.{Clears}
+use Rattle.frame.specs.declared.sweep.Sweep.{Sweep}
+use Rattle.frame.specs.Lines.{r}
+use Rattle.frame.specs.Sweep.{shift, Sane}
+use Rattle.frame.proofs.Rounding.{r-up}
+use Rattle.frame.proofs.Spans.{shift-falling, shift-rising}
+use Rattle.rows.specs.Rows.{spot, laneAt, PixelsAre, RowsAre, rowsOf}
+use Rattle.rows.specs.Passes.{eroding, dilating, Slanted, startOf, aheadAt, rowsOn, Bends, onward, backward, eroded, dilated, bent, Ahead, Behind}
+use Rattle.rows.proofs.Rowwise.{Parted, parted-rows, row-kept, row-room, rows-more}
+use Rattle.rows.proofs.Lines.{lane-in, lane-left, lane-right, columns-pixels, pixels-as}
+
+-- ---- rows in the order in which the lines cross them
+
+pub start-down : (N S t : ℕ) → startOf false N S t ≡ t * S
+unfolding startOf
+start-down N S t = refl
+
+pub start-up : (N S t : ℕ) → startOf true N S t ≡ (N - 1 - t) * S
+unfolding startOf
+start-up N S t = refl
+
+pub parted-slants : (up : Bool) (S W N : ℕ) → W ≤ S → Parted (startOf up N S) W N
+unfolding startOf
+parted-slants false S W N wide i j p q apart = parted-rows S W N wide i j p q apart
+parted-slants true S W N wide i j p q apart =
+    parted-rows S W N wide (N - 1 - i) (N - 1 - j) (omega arith) (omega arith) (λ e. apart (omega arith))
+
+pub start-room : (up : Bool) (S W N n t : ℕ) → t < N → (N - 1) * S + W ≤ n → startOf up N S t + W ≤ n
+unfolding startOf
+start-room false S W N n t h room = row-room S W N n t h room
+start-room true S W N n t h room = row-room S W N n (N - 1 - t) (omega arith) room
+
+-- what row t asks for, d rows past it, is as it was when the row is treated from its first column on, or from its last
+module _ (up : Bool) (S W N t d e n : ℕ) (wide : W ≤ S) (in′ : t + d < N) (whole : n + e ≡ W) where
+  apart : (startOf up N S t ≡ startOf up N S (t + d)) ⊎ ((startOf up N S t + W ≤ startOf up N S (t + d)) ⊎ (startOf up N S (t + d) + W ≤ startOf up N S t))
+  apart =
+      ⊎-elim
+      (λ q. inl (let same : t ≡ t + d = omega arith in ap (startOf up N S) same))
+      (λ q. inr (parted-slants up S W N wide t (t + d) (omega arith) in′ (λ h. omega arith)))
+      (less-or-not d 1)
+
+  pub slant-ahead : (at p : ℕ) → at ≡ startOf up N S t → p ≡ startOf up N S (t + d) + e → Ahead at p n
+  slant-ahead at p here there =
+      ⊎-elim (λ q. inl (omega (arith, here, there, q))) (⊎-elim (λ q. inl (omega (arith, here, there, q))) (λ q. inr (omega (arith, here, there, q)))) apart
+
+  pub slant-behind : (at p : ℕ) → at ≡ startOf up N S t + e → p ≡ startOf up N S (t + d) → Behind at p n
+  slant-behind at p here there =
+      ⊎-elim (λ q. inl (omega (arith, here, there, q))) (⊎-elim (λ q. inr (omega (arith, here, there, q))) (λ q. inl (omega (arith, here, there, q)))) apart
+
+module _ (up : Bool) (N S : ℕ) (g : List ℕ) where
+  pub ahead-in : (t j d : ℕ) → t + d < N → aheadAt up N S g t j d ≡ getD g (startOf up N S (t + d) + j) 0
+  unfolding aheadAt
+  ahead-in t j d in′ = rw (lt-ltb (t + d) N in′)
+
+  pub ahead-out : (t j d : ℕ) → N ≤ t + d → aheadAt up N S g t j d ≡ 0
+  unfolding aheadAt
+  ahead-out t j d out = rw (le-ltb (t + d) N out)
+
+-- ---- one row's part of a pass, in a buffer g
+
+bool-cases : (P : Bool → Type 0) (b : Bool) → (b ≡ true → P true) → (b ≡ false → P false) → P b
+bool-cases P true yes′ no′ = yes′ refl
+bool-cases P false yes′ no′ = no′ refl
+
+min-zero : (x y : ℕ) → y ≡ 0 → 0 ≡ min x y
+min-zero x y e = omega arith
+
+max-zero : (x y : ℕ) → y ≡ 0 → x ≡ max x y
+max-zero x y e = omega arith
+
+rows-on-least : (d : ℕ) (m : List ℕ) (x : ℕ) → d ≤ rowsOn d m x
+rows-on-least d m x = bool-cases (λ (b : Bool). d ≤ cond b d (d + 1)) (eqb (getD m x 0) 0) (λ e. le-refl d) (λ e. omega arith)
+
+module _ (s : Sweep) (up : Bool) (m : List ℕ) (e d : ℕ) (g : List ℕ) (t : ℕ) where
+  onward-out : (x : ℕ) → s .majors ≤ x + e → onward s up m e d g t x ≡ 0
+  unfolding onward
+  onward-out x out = rw (le-ltb (x + e) (s .majors) out)
+
+  onward-in : (x : ℕ) → x + e < s .majors → onward s up m e d g t x ≡ aheadAt up (s .minors) (s .minor) g t (x + e) (rowsOn d m x)
+  unfolding onward
+  onward-in x in′ = rw (lt-ltb (x + e) (s .majors) in′)
+
+  onward-gone : (x : ℕ) → s .minors ≤ t + d → onward s up m e d g t x ≡ 0
+  onward-gone x gone =
+      ⊎-elim
+      (λ in′. onward-in x in′ ∙ ahead-out up (s .minors) (s .minor) g t (x + e) (rowsOn d m x) (omega (arith, rows-on-least d m x)))
+      (onward-out x)
+      (less-or-not (x + e) (s .majors))
+
+  backward-out : (x : ℕ) → x < e → backward s up m e d g t x ≡ 0
+  unfolding backward
+  backward-out x out = rw (lt-ltb x e out)
+
+  backward-in : (x : ℕ) → e ≤ x → backward s up m e d g t x ≡ aheadAt up (s .minors) (s .minor) g t (x - e) (rowsOn d m (x - e))
+  unfolding backward
+  backward-in x in′ = rw (le-ltb x e in′)
+
+  backward-gone : (x : ℕ) → s .minors ≤ t + d → backward s up m e d g t x ≡ 0
+  backward-gone x gone =
+      ⊎-elim
+      (backward-out x)
+      (λ in′. backward-in x in′ ∙ ahead-out up (s .minors) (s .minor) g t (x - e) (rowsOn d m (x - e)) (omega (arith, rows-on-least d m (x - e))))
+      (less-or-not x e)
+
+  -- both rows are in the frame; column j of them stands c bytes behind their starts
+  chosen-both : (near far c j x : ℕ) → t + d + 1 < s .minors → near ≡ startOf up (s .minors) (s .minor) (t + d) + c → far ≡ startOf up (s .minors) (s .minor) (t + (d + 1)) + c
+      → j ≡ x + c → bent m g near far x ≡ aheadAt up (s .minors) (s .minor) g t j (rowsOn d m x)
+  unfolding bent
+  chosen-both near far c j x in′ en ef ej =
+      bool-cases
+      (λ (b : Bool). cond b (getD g (near + x) 0) (getD g (far + x) 0) ≡ aheadAt up (s .minors) (s .minor) g t j (cond b d (d + 1)))
+      (eqb (getD m x 0) 0)
+      (λ q. ap (λ (y : ℕ). getD g y 0) (omega (arith, en, ej)) ∙ sym (ahead-in up (s .minors) (s .minor) g t j d (omega arith)))
+      (λ q. ap (λ (y : ℕ). getD g y 0) (omega (arith, ef, ej)) ∙ sym (ahead-in up (s .minors) (s .minor) g t j (d + 1) (omega arith)))
+
+  -- only the near row is
+  chosen-last : (near c j x : ℕ) → t + d < s .minors → s .minors ≤ t + d + 1 → near ≡ startOf up (s .minors) (s .minor) (t + d) + c → j ≡ x + c
+      → cond (eqb (getD m x 0) 0) (getD g (near + x) 0) 0 ≡ aheadAt up (s .minors) (s .minor) g t j (rowsOn d m x)
+  chosen-last near c j x in′ last en ej =
+      bool-cases
+      (λ (b : Bool). cond b (getD g (near + x) 0) 0 ≡ aheadAt up (s .minors) (s .minor) g t j (cond b d (d + 1)))
+      (eqb (getD m x 0) 0)
+      (λ q. ap (λ (y : ℕ). getD g y 0) (omega (arith, en, ej)) ∙ sym (ahead-in up (s .minors) (s .minor) g t j d in′))
+      (λ q. sym (ahead-out up (s .minors) (s .minor) g t j (d + 1) (omega arith)))
+
+  module _ (at : ℕ) (here : at ≡ startOf up (s .minors) (s .minor) t) (room : at + s .majors ≤ length g) where
+    -- the row by its start
+    settled : {g′ : List ℕ} (F : ℕ → ℕ) → Filled g g′ at (at + s .majors) (λ (x : ℕ). F (x - at))
+        → Filled g g′ (startOf up (s .minors) (s .minor) t) (startOf up (s .minors) (s .minor) t + s .majors) (λ (x : ℕ). F (x - startOf up (s .minors) (s .minor) t))
+    settled {g′} F f = subst (λ (p : ℕ). Filled g g′ p (p + s .majors) (λ (x : ℕ). F (x - p))) here f
+
+    own : (x : ℕ) → at ≤ x → getD g x 0 ≡ getD g (startOf up (s .minors) (s .minor) t + (x - at)) 0
+    own x l = ap (λ (y : ℕ). getD g y 0) (omega (arith, here))
+
+    pub erode-gone : {g₁ : List ℕ} → Clears at (s .majors) g g₁ → s .minors ≤ t + d → Filled g g₁ (startOf up (s .minors) (s .minor) t) (startOf up (s .minors) (s .minor) t + s .majors) (λ (x : ℕ). eroded s up m e d g t (x - startOf up (s .minors) (s .minor) t))
+    erode-gone {g₁} clear gone =
+        let c : Filled g g₁ at (at + s .majors) (λ (x : ℕ). 0) = clear .done room in
+        settled (eroded s up m e d g t)
+        (record {
+          same = c .same;
+          within = λ x l h. c .within x l h ∙ min-zero _ _ (onward-gone (x - at) gone);
+          below = c .below;
+          above = c .above;
+        })
+
+    module _ (n near : ℕ) (wide : n + e ≡ s .majors) (first : near ≡ startOf up (s .minors) (s .minor) (t + d) + e) where
+      pub erode-both : {g₁ g₂ : List ℕ} (far : ℕ) → Filled g g₁ at (at + n) (λ (x : ℕ). min (getD g x 0) (bent m g near far (x - at))) → Clears (at + n) e g₁ g₂
+          → t + d + 1 < s .minors → far ≡ startOf up (s .minors) (s .minor) (t + (d + 1)) + e → Filled g g₂ (startOf up (s .minors) (s .minor) t) (startOf up (s .minors) (s .minor) t + s .majors) (λ (x : ℕ). eroded s up m e d g t (x - startOf up (s .minors) (s .minor) t))
+      erode-both {g₁} {g₂} far f clear in′ second =
+          let c : Filled g₁ g₂ (at + n) (at + n + e) (λ (x : ℕ). 0) = clear .done (omega (arith, f .same)) in
+          settled (eroded s up m e d g t)
+        (record {
+            same = c .same ∙ f .same;
+            within = λ x l h.
+                ⊎-elim
+                (λ q.
+                c .below x q
+                ∙ f .within x l q
+                ∙ ap₂ min (own x l)
+                (chosen-both near far e (x - at + e) (x - at) in′ first second refl ∙ sym (onward-in (x - at) (omega arith))))
+                (λ q. c .within x q (omega arith) ∙ min-zero _ _ (onward-out (x - at) (omega arith)))
+                (less-or-not x (at + n));
+            below = λ x l. c .below x (omega arith) ∙ f .below x l;
+            above = λ x l. c .above x (omega arith) ∙ f .above x (omega arith);
+          })
+
+      pub erode-last : {g₁ g₂ g₃ : List ℕ} → Filled g g₁ at (at + n) (λ (x : ℕ). min (getD g x 0) (bent m g near at (x - at)))
+          → Filled g₁ g₂ at (at + n) (λ (x : ℕ). cond (eqb (getD m (x - at) 0) 0) (getD g₁ x 0) 0) → Clears (at + n) e g₂ g₃
+          → t + d < s .minors → s .minors ≤ t + d + 1 → Filled g g₃ (startOf up (s .minors) (s .minor) t) (startOf up (s .minors) (s .minor) t + s .majors) (λ (x : ℕ). eroded s up m e d g t (x - startOf up (s .minors) (s .minor) t))
+      unfolding bent
+      erode-last {g₁} {g₂} {g₃} f b clear in′ last =
+          let c : Filled g₂ g₃ (at + n) (at + n + e) (λ (x : ℕ). 0) = clear .done (omega (arith, f .same, b .same)) in
+          settled (eroded s up m e d g t)
+        (record {
+            same = c .same ∙ b .same ∙ f .same;
+            within = λ x l h.
+                ⊎-elim
+                (λ q.
+                c .below x q
+                ∙ b .within x l q
+                ∙ ap (λ (v : ℕ). cond (eqb (getD m (x - at) 0) 0) v 0) (f .within x l q)
+                ∙ darker x
+                ∙ ap₂ min (own x l)
+                (chosen-last near e (x - at + e) (x - at) in′ last first refl ∙ sym (onward-in (x - at) (omega arith))))
+                (λ q. c .within x q (omega arith) ∙ min-zero _ _ (onward-out (x - at) (omega arith)))
+                (less-or-not x (at + n));
+            below = λ x l. c .below x (omega arith) ∙ b .below x l ∙ f .below x l;
+            above = λ x l. c .above x (omega arith) ∙ b .above x (omega arith) ∙ f .above x (omega arith);
+          })
+        where
+          darker : (x : ℕ)
+              → cond (eqb (getD m (x - at) 0) 0) (min (getD g x 0) (bent m g near at (x - at))) 0
+              ≡ min (getD g x 0) (cond (eqb (getD m (x - at) 0) 0) (getD g (near + (x - at)) 0) 0)
+          darker x =
+              bool-cases
+              (λ (b : Bool).
+              cond b (min (getD g x 0) (cond b (getD g (near + (x - at)) 0) (getD g (at + (x - at)) 0))) 0 ≡ min (getD g x 0) (cond b (getD g (near + (x - at)) 0) 0))
+              (eqb (getD m (x - at) 0) 0) (λ q. refl) (λ q. omega arith)
+
+    pub dilate-gone : s .minors ≤ t + d → Filled g g (startOf up (s .minors) (s .minor) t) (startOf up (s .minors) (s .minor) t + s .majors) (λ (x : ℕ). dilated s up m e d g t (x - startOf up (s .minors) (s .minor) t))
+    dilate-gone gone =
+        settled (dilated s up m e d g t)
+        (record {
+          same = refl;
+          within = λ x l h. own x l ∙ max-zero _ _ (backward-gone (x - at) gone);
+          below = λ x l. refl;
+          above = λ x l. refl;
+        })
+
+    module _ (n near : ℕ) (wide : n + e ≡ s .majors) (first : near ≡ startOf up (s .minors) (s .minor) (t + d)) where
+      pub dilate-both : {g₁ : List ℕ} (far : ℕ) → Filled g g₁ (at + e) (at + e + n) (λ (x : ℕ). max (getD g x 0) (bent m g near far (x - (at + e))))
+          → t + d + 1 < s .minors → far ≡ startOf up (s .minors) (s .minor) (t + (d + 1)) → Filled g g₁ (startOf up (s .minors) (s .minor) t) (startOf up (s .minors) (s .minor) t + s .majors) (λ (x : ℕ). dilated s up m e d g t (x - startOf up (s .minors) (s .minor) t))
+      dilate-both {g₁} far f in′ second =
+          settled (dilated s up m e d g t)
+        (record {
+            same = f .same;
+            within = λ x l h.
+                ⊎-elim
+                (λ q. f .below x q ∙ own x l ∙ max-zero _ _ (backward-out (x - at) (omega arith)))
+                (λ q.
+                let c : x - (at + e) ≡ x - at - e = omega arith in
+                f .within x q (omega arith)
+                ∙ ap₂ max (own x l)
+                (ap (bent m g near far) c
+                ∙ chosen-both near far 0 (x - at - e) (x - at - e) in′ (omega (arith, first)) (omega (arith, second)) (omega arith)
+                ∙ sym (backward-in (x - at) (omega arith))))
+                (less-or-not x (at + e));
+            below = λ x l. f .below x (omega arith);
+            above = λ x l. f .above x (omega arith);
+          })
+
+      pub dilate-last : {g₁ : List ℕ} → Filled g g₁ (at + e) (at + e + n) (λ (x : ℕ). max (getD g x 0) (bent m g near (at + e) (x - (at + e))))
+          → t + d < s .minors → s .minors ≤ t + d + 1 → Filled g g₁ (startOf up (s .minors) (s .minor) t) (startOf up (s .minors) (s .minor) t + s .majors) (λ (x : ℕ). dilated s up m e d g t (x - startOf up (s .minors) (s .minor) t))
+      unfolding bent
+      dilate-last {g₁} f in′ last =
+          settled (dilated s up m e d g t)
+        (record {
+            same = f .same;
+            within = λ x l h.
+                ⊎-elim
+                (λ q. f .below x q ∙ own x l ∙ max-zero _ _ (backward-out (x - at) (omega arith)))
+                (λ q.
+                let c : x - (at + e) ≡ x - at - e = omega arith in
+                f .within x q (omega arith)
+                ∙ brighter x q
+                ∙ ap₂ max (own x l)
+                (ap (λ (j : ℕ). cond (eqb (getD m j 0) 0) (getD g (near + j) 0) 0) c
+                ∙ chosen-last near 0 (x - at - e) (x - at - e) in′ last (omega (arith, first)) (omega arith)
+                ∙ sym (backward-in (x - at) (omega arith))))
+                (less-or-not x (at + e));
+            below = λ x l. f .below x (omega arith);
+            above = λ x l. f .above x (omega arith);
+          })
+        where
+          brighter : (x : ℕ) → at + e ≤ x
+              → max (getD g x 0) (bent m g near (at + e) (x - (at + e)))
+              ≡ max (getD g x 0) (cond (eqb (getD m (x - (at + e)) 0) 0) (getD g (near + (x - (at + e))) 0) 0)
+          brighter x l =
+              let back : at + e + (x - (at + e)) ≡ x = omega arith in
+              bool-cases
+              (λ (b : Bool).
+              max (getD g x 0) (cond b (getD g (near + (x - (at + e))) 0) (getD g (at + e + (x - (at + e))) 0))
+              ≡ max (getD g x 0) (cond b (getD g (near + (x - (at + e))) 0) 0))
+              (eqb (getD m (x - (at + e)) 0) 0) (λ q. refl) (λ q. omega (arith, ap (λ (y : ℕ). getD g y 0) back))
+
+-- ---- all rows
+
+module _ (s : Sweep) (up : Bool) (m : List ℕ) (e d : ℕ) {b a : List ℕ} (parted : Parted (startOf up (s .minors) (s .minor)) (s .majors) (s .minors)) where
+  ahead-kept : {F : ℕ → ℕ → ℕ} {t : ℕ} → RowsAre (startOf up (s .minors) (s .minor)) (s .majors) 0 t F b a → t < s .minors → (j c : ℕ) → j < s .majors
+      → aheadAt up (s .minors) (s .minor) a t j c ≡ aheadAt up (s .minors) (s .minor) b t j c
+  ahead-kept {F} {t} done h j c in′ =
+      ⊎-elim
+      (λ q.
+      ahead-in up (s .minors) (s .minor) a t j c q
+      ∙ row-kept parted done (omega arith) (t + c) j q in′ (inr (omega arith))
+      ∙ sym (ahead-in up (s .minors) (s .minor) b t j c q))
+      (λ q. ahead-out up (s .minors) (s .minor) a t j c q ∙ sym (ahead-out up (s .minors) (s .minor) b t j c q))
+      (less-or-not (t + c) (s .minors))
+
+  pub erode-more : {a′ : List ℕ} (t : ℕ) → RowsAre (startOf up (s .minors) (s .minor)) (s .majors) 0 t (eroded s up m e d b) b a
+      → Filled a a′ (startOf up (s .minors) (s .minor) t) (startOf up (s .minors) (s .minor) t + s .majors)
+      (λ (x : ℕ). eroded s up m e d a t (x - startOf up (s .minors) (s .minor) t))
+      → t < s .minors → RowsAre (startOf up (s .minors) (s .minor)) (s .majors) 0 (t + 1) (eroded s up m e d b) b a′
+  erode-more {a′} t done f h = rows-more parted done f row zero-le h
+    where
+      kept : (k : ℕ) → onward s up m e d a t k ≡ onward s up m e d b t k
+      kept k =
+          ⊎-elim
+          (λ q. onward-in s up m e d a t k q ∙ ahead-kept done h (k + e) (rowsOn d m k) q ∙ sym (onward-in s up m e d b t k q))
+          (λ q. onward-out s up m e d a t k q ∙ sym (onward-out s up m e d b t k q))
+          (less-or-not (k + e) (s .majors))
+      row : (k : ℕ) → k < s .majors
+          → eroded s up m e d a t (startOf up (s .minors) (s .minor) t + k - startOf up (s .minors) (s .minor) t) ≡ eroded s up m e d b t k
+      row k n =
+          let q : startOf up (s .minors) (s .minor) t + k - startOf up (s .minors) (s .minor) t ≡ k = omega arith in
+          ap (eroded s up m e d a t) q ∙ ap₂ min (row-kept parted done (omega arith) t k h n (inr (le-refl t))) (kept k)
+
+  pub dilate-more : {a′ : List ℕ} (t : ℕ) → RowsAre (startOf up (s .minors) (s .minor)) (s .majors) 0 t (dilated s up m e d b) b a
+      → Filled a a′ (startOf up (s .minors) (s .minor) t) (startOf up (s .minors) (s .minor) t + s .majors)
+      (λ (x : ℕ). dilated s up m e d a t (x - startOf up (s .minors) (s .minor) t))
+      → t < s .minors → RowsAre (startOf up (s .minors) (s .minor)) (s .majors) 0 (t + 1) (dilated s up m e d b) b a′
+  dilate-more {a′} t done f h = rows-more parted done f row zero-le h
+    where
+      kept : (k : ℕ) → k < s .majors → backward s up m e d a t k ≡ backward s up m e d b t k
+      kept k n =
+          ⊎-elim
+          (λ q. backward-out s up m e d a t k q ∙ sym (backward-out s up m e d b t k q))
+          (λ q. backward-in s up m e d a t k q ∙ ahead-kept done h (k - e) (rowsOn d m (k - e)) (omega arith) ∙ sym (backward-in s up m e d b t k q))
+          (less-or-not k e)
+      row : (k : ℕ) → k < s .majors
+          → dilated s up m e d a t (startOf up (s .minors) (s .minor) t + k - startOf up (s .minors) (s .minor) t) ≡ dilated s up m e d b t k
+      row k n =
+          let q : startOf up (s .minors) (s .minor) t + k - startOf up (s .minors) (s .minor) t ≡ k = omega arith in
+          ap (dilated s up m e d a t) q ∙ ap₂ max (row-kept parted done (omega arith) t k h n (inr (le-refl t))) (kept k n)
+
+-- ---- the pass, for every line
+
+-- the row that holds pixel k, in the order of the pass
+abbrev pub turned : Bool → ℕ → ℕ → ℕ
+turned up N k = cond up (N - 1 - k) k
+
+module _ (N S : ℕ) (g : List ℕ) (h : ℕ → ℕ) (A : ℕ → ℕ → ℕ) (place : (i k : ℕ) → A i k ≡ k * S + i) where
+  lane-down : (k i j c : ℕ) → k < N → h i ≡ h j + c → aheadAt false N S g k j c ≡ laneAt h A N g (k + h i) j
+  lane-down k i j c n e =
+      ⊎-elim
+      (λ q.
+      let v : k + c ≡ k + h i - h j = omega (arith, e) in
+      ahead-in false N S g k j c q
+      ∙ ap (λ (x : ℕ). getD g (x + j) 0) (start-down N S (k + c))
+      ∙ ap (λ (x : ℕ). getD g x 0) (sym (place j (k + c)) ∙ ap (A j) v)
+      ∙ sym (lane-in h A N g (k + h i) j (omega (arith, e)) (omega (arith, e))))
+      (λ q. ahead-out false N S g k j c q ∙ sym (lane-right h A N g (k + h i) j (omega (arith, e)) (omega (arith, e))))
+      (less-or-not (k + c) N)
+
+  lane-up : (k i j c : ℕ) → k < N → h j ≡ h i + c → aheadAt true N S g (N - 1 - k) j c ≡ laneAt h A N g (k + h i) j
+  lane-up k i j c n e =
+      ⊎-elim
+      (λ q.
+      let w : N - 1 - (N - 1 - k + c) ≡ k + h i - h j = omega (arith, e) in
+      ahead-in true N S g (N - 1 - k) j c q
+      ∙ ap (λ (x : ℕ). getD g (x + j) 0) (start-up N S (N - 1 - k + c) ∙ ap (λ (x : ℕ). x * S) w)
+      ∙ ap (λ (x : ℕ). getD g x 0) (sym (place j (k + h i - h j)))
+      ∙ sym (lane-in h A N g (k + h i) j (omega (arith, e)) (omega (arith, e))))
+      (λ q. ahead-out true N S g (N - 1 - k) j c q ∙ sym (lane-left h A N g (k + h i) j (omega (arith, e))))
+      (less-or-not (N - 1 - k + c) N)
+
+turned-in : (up : Bool) (N k : ℕ) → k < N → turned up N k < N
+turned-in false N k h = h
+turned-in true N k h = omega arith
+
+turned-back : (up : Bool) (N t : ℕ) → t < N → turned up N (turned up N t) ≡ t
+turned-back false N t h = refl
+turned-back true N t h = omega arith
+
+turned-start : (up : Bool) (N S k : ℕ) → k < N → startOf up N S (turned up N k) ≡ k * S
+turned-start false N S k h = start-down N S k
+turned-start true N S k h = let e : N - 1 - (N - 1 - k) ≡ k = omega arith in start-up N S (N - 1 - k) ∙ ap (λ (x : ℕ). x * S) e
+
+-- the pixels of a row stand side by side
+row-by-row : (s : Sweep) → s .major ≡ 1 → (i k : ℕ) → spot s i k ≡ k * s .minor + i
+row-by-row s flat i k = let e : i * s .major ≡ i = ap (λ (x : ℕ). i * x) flat ∙ mul-one i in omega (arith, e)
+
+module _ (s : Sweep) (m : List ℕ) (e d : ℕ) (sane : Sane s) (flat : s .major ≡ 1) (marks : Bends (s .run) (s .rise) e d (s .majors - e) m) where
+  turned-spot : (up : Bool) (i k : ℕ) → k < s .minors → spot s i k ≡ startOf up (s .minors) (s .minor) (turned up (s .minors) k) + i
+  turned-spot up i k n = row-by-row s flat i k ∙ ap (λ (x : ℕ). x + i) (sym (turned-start up (s .minors) (s .minor) k n))
+
+  -- how far the lines have moved aside in all
+  moved-less : (i : ℕ) → i < s .majors → r (s .run) (s .rise) i ≤ s .top
+  moved-less i h = omega (arith, sane .top, r-up (s .run) (s .rise) i (s .majors - 1) (sane .moves) (omega arith))
+
+  pub eroded-lines : {b a : List ℕ} → RowsAre (startOf (s .falling) (s .minors) (s .minor)) (s .majors) 0 (s .minors) (eroded s (s .falling) m e d b) b a
+      → PixelsAre (spot s) (s .majors) (s .minors) (eroding (shift s) (spot s) (s .minors) (s .majors) e b) b a
+  eroded-lines {b} {a} done =
+      pixels-as
+      (columns-pixels done (spot s) (turned (s .falling) (s .minors)) (turned-in (s .falling) (s .minors)) (turned-back (s .falling) (s .minors)) (turned-spot (s .falling)))
+      (eroding (shift s) (spot s) (s .minors) (s .majors) e b)
+      (λ i k l n. ap₂ min (ap (λ (x : ℕ). getD b x 0) (sym (turned-spot (s .falling) i k n))) (ahead i k n))
+    where
+      lane-on : (i k : ℕ) → k < s .minors → i + e < s .majors → (up : Bool) → s .falling ≡ up
+          → aheadAt up (s .minors) (s .minor) b (turned up (s .minors) k) (i + e) (rowsOn d m i) ≡ laneAt (shift s) (spot s) (s .minors) b (k + shift s i) (i + e)
+      lane-on i k n h true f =
+          lane-up (s .minors) (s .minor) b (shift s) (spot s) (row-by-row s flat) k i (i + e) (rowsOn d m i) n
+          (shift-falling s f (i + e) ∙ marks i (omega arith) ∙ ap (λ (x : ℕ). x + rowsOn d m i) (sym (shift-falling s f i)))
+      lane-on i k n h false f =
+          lane-down (s .minors) (s .minor) b (shift s) (spot s) (row-by-row s flat) k i (i + e) (rowsOn d m i) n
+          (omega (arith, shift-rising s f i, shift-rising s f (i + e), marks i (omega arith), moved-less (i + e) h))
+      ahead : (i k : ℕ) → k < s .minors
+          → onward s (s .falling) m e d b (turned (s .falling) (s .minors) k) i
+          ≡ cond (ltb (i + e) (s .majors)) (laneAt (shift s) (spot s) (s .minors) b (k + shift s i) (i + e)) 0
+      ahead i k n =
+          ⊎-elim
+          (λ in′. rw (lt-ltb (i + e) (s .majors) in′) (onward-in s (s .falling) m e d b (turned (s .falling) (s .minors) k) i in′ ∙ lane-on i k n in′ (s .falling) refl))
+          (λ out. rw (le-ltb (i + e) (s .majors) out) (onward-out s (s .falling) m e d b (turned (s .falling) (s .minors) k) i out))
+          (less-or-not (i + e) (s .majors))
+
+  pub dilated-lines : {b a : List ℕ} → RowsAre (startOf (not (s .falling)) (s .minors) (s .minor)) (s .majors) 0 (s .minors) (dilated s (not (s .falling)) m e d b) b a
+      → PixelsAre (spot s) (s .majors) (s .minors) (dilating (shift s) (spot s) (s .minors) e b) b a
+  dilated-lines {b} {a} done =
+      pixels-as
+      (columns-pixels done (spot s) (turned (not (s .falling)) (s .minors)) (turned-in (not (s .falling)) (s .minors)) (turned-back (not (s .falling)) (s .minors))
+      (turned-spot (not (s .falling))))
+      (dilating (shift s) (spot s) (s .minors) e b)
+      (λ i k l n. ap₂ max (ap (λ (x : ℕ). getD b x 0) (sym (turned-spot (not (s .falling)) i k n))) (before i k l n))
+    where
+      moved : (i : ℕ) → e ≤ i → i < s .majors → r (s .run) (s .rise) i ≡ r (s .run) (s .rise) (i - e) + rowsOn d m (i - e)
+      moved i h l = let q : i ≡ i - e + e = omega arith in ap (r (s .run) (s .rise)) q ∙ marks (i - e) (omega arith)
+      lane-back : (i k : ℕ) → i < s .majors → k < s .minors → e ≤ i → (f : Bool) → s .falling ≡ f
+          → aheadAt (not f) (s .minors) (s .minor) b (turned (not f) (s .minors) k) (i - e) (rowsOn d m (i - e))
+          ≡ laneAt (shift s) (spot s) (s .minors) b (k + shift s i) (i - e)
+      lane-back i k l n h true f =
+          lane-down (s .minors) (s .minor) b (shift s) (spot s) (row-by-row s flat) k i (i - e) (rowsOn d m (i - e)) n
+          (shift-falling s f i ∙ moved i h l ∙ ap (λ (x : ℕ). x + rowsOn d m (i - e)) (sym (shift-falling s f (i - e))))
+      lane-back i k l n h false f =
+          lane-up (s .minors) (s .minor) b (shift s) (spot s) (row-by-row s flat) k i (i - e) (rowsOn d m (i - e)) n
+          (omega (arith, shift-rising s f i, shift-rising s f (i - e), moved i h l, moved-less i l))
+      before : (i k : ℕ) → i < s .majors → k < s .minors
+          → backward s (not (s .falling)) m e d b (turned (not (s .falling)) (s .minors) k) i
+          ≡ cond (ltb i e) 0 (laneAt (shift s) (spot s) (s .minors) b (k + shift s i) (i - e))
+      before i k l n =
+          ⊎-elim
+          (λ out. rw (lt-ltb i e out) (backward-out s (not (s .falling)) m e d b (turned (not (s .falling)) (s .minors) k) i out))
+          (λ in′. rw (le-ltb i e in′) (backward-in s (not (s .falling)) m e d b (turned (not (s .falling)) (s .minors) k) i in′ ∙ lane-back i k l n in′ (s .falling) refl))
+          (less-or-not i e)

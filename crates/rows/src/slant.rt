@@ -1,0 +1,91 @@
+// A pass in a shallow direction, row by row. Rows are counted in the order in which the lines cross them, from the frame's last one on where `up`: what a
+// row asks for then stands in itself or in rows that come after it, and is as it was.
+use crate::bent::blacken_bent;
+use crate::bent::brighten_bent;
+use crate::bent::darken_bent;
+use frame::Sweep;
+ghost use mathlib.Core.Path.{_≡_};
+ghost use Prim.Native.Nat.{ℕ, _+_, _-_, _≤_, _<_};
+ghost use lib.ListN.{length};
+ghost use Rattle.lists.specs.Stores.{Filled};
+ghost use Rattle.frame.specs.Sweep.{Sane};
+ghost use Rattle.rows.specs.Rows.{RowsAre};
+ghost use Rattle.rows.specs.Passes.{Slanted, startOf, eroded, dilated};
+
+// Where row t starts.
+fn start(s: Sweep, up: bool, t: usize) -> usize
+    requires { ⌜ Sane s × (t < s .minors) ⌝ }
+    ensures { λ n. ⌜ n ≡ startOf up (s .minors) (s .minor) t ⌝ }
+{
+    let rows = s.minors;
+    let stride = s.minor;
+    if up { (rows - 1 - t) * stride } else { t * stride }
+}
+
+// Each pixel of row t becomes the darker of itself and its line's pixel e columns on, which stands `step` rows on, or one more where it is marked.
+fn erode_slant(buf: &mut [u8], bends: &[u8], s: Sweep, up: bool, t: usize, e: usize, step: usize)
+    requires { ⌜ Slanted s (now buf) × (t < s .minors) × (e ≤ s .majors) × (s .majors ≤ length (now bends)) ⌝ }
+    ensures { λ _. ⌜ Filled (now (buf .entry)) (now (buf .exit)) (startOf up (s .minors) (s .minor) t) (startOf up (s .minors) (s .minor) t + s .majors) (λ (x : ℕ). eroded s up (now (bends .entry)) e step (now (buf .entry)) t (x - startOf up (s .minors) (s .minor) t)) ⌝ }
+{
+    let left = s.minors - t;
+    let at = start(s, up, t);
+    if left <= step {
+        line::blacken(buf, at, s.majors);
+        return;
+    }
+    let n = s.majors - e;
+    let near = start(s, up, t + step) + e;
+    if left - step < 2 {
+        darken_bent(buf, bends, at, near, at, n);
+        blacken_bent(buf, bends, at, n);
+        line::blacken(buf, at + n, e);
+        return;
+    }
+    let far = start(s, up, t + (step + 1)) + e;
+    darken_bent(buf, bends, at, near, far, n);
+    line::blacken(buf, at + n, e);
+}
+
+// Each pixel of row t becomes the brighter of itself and its line's pixel e columns before, where there is one.
+fn dilate_slant(buf: &mut [u8], bends: &[u8], s: Sweep, up: bool, t: usize, e: usize, step: usize)
+    requires { ⌜ Slanted s (now buf) × (t < s .minors) × (e ≤ s .majors) × (s .majors ≤ length (now bends)) ⌝ }
+    ensures { λ _. ⌜ Filled (now (buf .entry)) (now (buf .exit)) (startOf up (s .minors) (s .minor) t) (startOf up (s .minors) (s .minor) t + s .majors) (λ (x : ℕ). dilated s up (now (bends .entry)) e step (now (buf .entry)) t (x - startOf up (s .minors) (s .minor) t)) ⌝ }
+{
+    let left = s.minors - t;
+    if left <= step {
+        return;
+    }
+    let at = start(s, up, t) + e;
+    let n = s.majors - e;
+    let near = start(s, up, t + step);
+    if left - step < 2 {
+        brighten_bent(buf, bends, at, near, at, n);
+        return;
+    }
+    let far = start(s, up, t + (step + 1));
+    brighten_bent(buf, bends, at, near, far, n);
+}
+
+pub(crate) fn erode_slants(buf: &mut [u8], bends: &[u8], s: Sweep, up: bool, e: usize, step: usize)
+    requires { ⌜ Slanted s (now buf) × (e ≤ s .majors) × (s .majors ≤ length (now bends)) ⌝ }
+    ensures { λ _. ⌜ RowsAre (startOf up (s .minors) (s .minor)) (s .majors) 0 (s .minors) (eroded s up (now (bends .entry)) e step (now (buf .entry))) (now (buf .entry)) (now (buf .exit)) ⌝ }
+{
+    let rows = s.minors;
+    let mut t = 0;
+    while t < rows {
+        erode_slant(buf, bends, s, up, t, e, step);
+        t += 1;
+    }
+}
+
+pub(crate) fn dilate_slants(buf: &mut [u8], bends: &[u8], s: Sweep, up: bool, e: usize, step: usize)
+    requires { ⌜ Slanted s (now buf) × (e ≤ s .majors) × (s .majors ≤ length (now bends)) ⌝ }
+    ensures { λ _. ⌜ RowsAre (startOf up (s .minors) (s .minor)) (s .majors) 0 (s .minors) (dilated s up (now (bends .entry)) e step (now (buf .entry))) (now (buf .entry)) (now (buf .exit)) ⌝ }
+{
+    let rows = s.minors;
+    let mut t = 0;
+    while t < rows {
+        dilate_slant(buf, bends, s, up, t, e, step);
+        t += 1;
+    }
+}
