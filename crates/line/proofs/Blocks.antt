@@ -1,5 +1,6 @@
 -- A pass by blocks, in place: what a block reads is as it was where the pass began.
 --   narrowed-block, widened-block     a block more
+--   widened-read                      a value more, downward
 --   narrowed-join, widened-join       one stretch and another, each in terms of what it found
 -- Assumes nothing.
 use mathlib.Core.Path.{_≡_, ap, ap₂, _∙_}
@@ -11,11 +12,11 @@ use Rattle.lists.specs.Stores.{Filled}
 use Rattle.lists.proofs.Stores.{filled-as, filled-join, filled-join-before}
 use Rattle.line.specs.Passes.{narrowed, widened}
 
--- t is the block at i
-pub narrowed-block : {b₀ a b : List ℕ} (t : List ℕ) (i d : ℕ) → Filled b₀ a 0 i (narrowed b₀ d)
-    → ((k : ℕ) → k < 64 → getD t k 0 ≡ min (getD a (i + k) 0) (getD a (i + d + k) 0)) → Filled a b i (i + 64) (λ (k : ℕ). getD t (k - i) 0)
-    → Filled b₀ b 0 (i + 64) (narrowed b₀ d)
-narrowed-block {b₀} {a} {b} t i d f g p =
+-- t is the block of n bytes at i
+pub narrowed-block : {b₀ a b : List ℕ} {lo : ℕ} (n : ℕ) (t : List ℕ) (i d : ℕ) → Filled b₀ a lo i (narrowed b₀ d) → lo ≤ i
+    → ((k : ℕ) → k < n → getD t k 0 ≡ min (getD a (i + k) 0) (getD a (i + d + k) 0)) → Filled a b i (i + n) (λ (k : ℕ). getD t (k - i) 0)
+    → Filled b₀ b lo (i + n) (narrowed b₀ d)
+narrowed-block {b₀} {a} {b} {lo} n t i d f low g p =
     filled-join f
     (filled-as p (narrowed b₀ d)
     (λ k l h.
@@ -23,14 +24,19 @@ narrowed-block {b₀} {a} {b} t i d f g p =
     let there : i + d + (k - i) ≡ k + d = omega arith in
     g (k - i) (omega arith)
     ∙ ap₂ min (ap (λ (x : ℕ). getD a x 0) here ∙ f .above k l) (ap (λ (x : ℕ). getD a x 0) there ∙ f .above (k + d) (omega arith))))
-    zero-le (omega arith)
+    low (omega arith)
 
--- t is the block at m + d
-pub widened-block : {b₀ a b : List ℕ} {lo hi : ℕ} (t : List ℕ) (m d : ℕ) → Filled b₀ a lo hi (widened b₀ d) → lo ≡ m + d + 64 → lo ≤ hi
-    → ((k : ℕ) → k < 64 → getD t k 0 ≡ max (getD a (m + d + k) 0) (getD a (m + k) 0)) → Filled a b (m + d) (m + d + 64) (λ (k : ℕ). getD t (k - (m + d)) 0)
+pub widened-read : {b₀ a : List ℕ} {lo hi : ℕ} {F : ℕ → ℕ} (m d : ℕ) → Filled b₀ a lo hi F → m + d < lo → max (getD a (m + d) 0) (getD a m 0) ≡ widened b₀ d (m + d)
+widened-read {b₀} m d f h =
+    let e : m ≡ m + d - d = omega arith in
+    ap₂ max (f .below (m + d) h) (f .below m (omega arith) ∙ ap (λ (x : ℕ). getD b₀ x 0) e)
+
+-- t is the block of n bytes at m + d
+pub widened-block : {b₀ a b : List ℕ} {lo hi : ℕ} (n : ℕ) (t : List ℕ) (m d : ℕ) → Filled b₀ a lo hi (widened b₀ d) → lo ≡ m + d + n → lo ≤ hi
+    → ((k : ℕ) → k < n → getD t k 0 ≡ max (getD a (m + d + k) 0) (getD a (m + k) 0)) → Filled a b (m + d) (m + d + n) (λ (k : ℕ). getD t (k - (m + d)) 0)
     → Filled b₀ b (m + d) hi (widened b₀ d)
-widened-block {b₀} {a} {b} {lo} {hi} t m d f e room g p =
-    let block : Filled a b (m + d) (m + d + 64) (widened b₀ d) =
+widened-block {b₀} {a} {b} {lo} {hi} n t m d f e room g p =
+    let block : Filled a b (m + d) (m + d + n) (widened b₀ d) =
     filled-as p (widened b₀ d)
     (λ k l h.
     let here : m + d + (k - (m + d)) ≡ k = omega arith in

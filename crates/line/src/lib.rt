@@ -6,6 +6,7 @@ mod lanes;
 mod opening;
 mod part;
 mod pass;
+mod sixteen;
 
 pub use dilation::dilate;
 pub use erosion::erode;

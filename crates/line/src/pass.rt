@@ -1,18 +1,21 @@
-// One pass over a buffer each: a flat loop, in place. `narrow` and `widen` are where the time goes: 64 bytes a turn, then what is left one by one.
+// One pass over a buffer each: a flat loop, in place. `narrow` and `widen` are where the time goes: 64 bytes a turn, then 16, then what is left one by one.
 use crate::block::brighter;
 use crate::block::brighter_at;
 use crate::block::darker;
 use crate::block::darker_at;
 use crate::block::put_at;
+use crate::sixteen::brighter_sixteen;
+use crate::sixteen::darker_sixteen;
+use crate::sixteen::put_sixteen;
 ghost use Prim.Native.Nat.{ℕ, _+_, _≤_};
 ghost use lib.ListN.{length, getD};
 ghost use Rattle.lists.specs.Stores.{Filled};
 ghost use Rattle.line.specs.Passes.{narrowed, widened};
 
-// Each of the first m bytes becomes the darker of itself and the byte d behind it; upward, so that what it reads is as it was.
-pub(crate) fn narrow(buf: &mut [u8], m: usize, d: usize)
+// 64 bytes a turn, as far as they go; hands back how far that is.
+fn narrow_blocks(buf: &mut [u8], m: usize, d: usize) -> usize
     requires { ⌜ m + d ≤ length (now buf) ⌝ }
-    ensures { λ _. ⌜ Filled (now (buf .entry)) (now (buf .exit)) 0 m (narrowed (now (buf .entry)) d) ⌝ }
+    ensures { λ i. ⌜ (i ≤ m) × Filled (now (buf .entry)) (now (buf .exit)) 0 i (narrowed (now (buf .entry)) d) ⌝ }
 {
     let mut i = 0;
     while 64 <= m - i {
@@ -20,16 +23,40 @@ pub(crate) fn narrow(buf: &mut [u8], m: usize, d: usize)
         put_at(buf, i, t);
         i += 64;
     }
+    i
+}
+
+// 16 bytes a turn from `from` on, as far as they go; hands back how far that is.
+fn narrow_sixteens(buf: &mut [u8], from: usize, m: usize, d: usize) -> usize
+    requires { ⌜ (from ≤ m) × (m + d ≤ length (now buf)) ⌝ }
+    ensures { λ i. ⌜ (from ≤ i) × (i ≤ m) × Filled (now (buf .entry)) (now (buf .exit)) from i (narrowed (now (buf .entry)) d) ⌝ }
+{
+    let mut i = from;
+    while 16 <= m - i {
+        let t = darker_sixteen(buf, i, d);
+        put_sixteen(buf, i, t);
+        i += 16;
+    }
+    i
+}
+
+// Each of the first m bytes becomes the darker of itself and the byte d behind it; upward, so that what it reads is as it was.
+pub(crate) fn narrow(buf: &mut [u8], m: usize, d: usize)
+    requires { ⌜ m + d ≤ length (now buf) ⌝ }
+    ensures { λ _. ⌜ Filled (now (buf .entry)) (now (buf .exit)) 0 m (narrowed (now (buf .entry)) d) ⌝ }
+{
+    let from = narrow_blocks(buf, m, d);
+    let mut i = narrow_sixteens(buf, from, m, d);
     while i < m {
         buf[i] = darker(buf[i], buf[i + d]);
         i += 1;
     }
 }
 
-// Each byte from d on becomes the brighter of itself and the byte d before it; downward, so that what it reads is as it was.
-pub(crate) fn widen(buf: &mut [u8], d: usize)
+// 64 bytes a turn from the end down, as far as they go; hands back how many bytes from d on are left.
+fn widen_blocks(buf: &mut [u8], d: usize) -> usize
     requires { ⌜ d ≤ length (now buf) ⌝ }
-    ensures { λ _. ⌜ Filled (now (buf .entry)) (now (buf .exit)) d (length (now (buf .entry))) (widened (now (buf .entry)) d) ⌝ }
+    ensures { λ m. ⌜ (m + d ≤ length (now (buf .entry))) × Filled (now (buf .entry)) (now (buf .exit)) (m + d) (length (now (buf .entry))) (widened (now (buf .entry)) d) ⌝ }
 {
     let mut m = buf.len() - d;
     while 64 <= m {
@@ -37,6 +64,30 @@ pub(crate) fn widen(buf: &mut [u8], d: usize)
         let t = brighter_at(buf, m, d);
         put_at(buf, m + d, t);
     }
+    m
+}
+
+// 16 bytes a turn down from the n bytes from d on, as far as they go; hands back how many are left.
+fn widen_sixteens(buf: &mut [u8], n: usize, d: usize) -> usize
+    requires { ⌜ n + d ≤ length (now buf) ⌝ }
+    ensures { λ m. ⌜ (m ≤ n) × Filled (now (buf .entry)) (now (buf .exit)) (m + d) (n + d) (widened (now (buf .entry)) d) ⌝ }
+{
+    let mut m = n;
+    while 16 <= m {
+        m -= 16;
+        let t = brighter_sixteen(buf, m, d);
+        put_sixteen(buf, m + d, t);
+    }
+    m
+}
+
+// Each byte from d on becomes the brighter of itself and the byte d before it; downward, so that what it reads is as it was.
+pub(crate) fn widen(buf: &mut [u8], d: usize)
+    requires { ⌜ d ≤ length (now buf) ⌝ }
+    ensures { λ _. ⌜ Filled (now (buf .entry)) (now (buf .exit)) d (length (now (buf .entry))) (widened (now (buf .entry)) d) ⌝ }
+{
+    let n = widen_blocks(buf, d);
+    let mut m = widen_sixteens(buf, n, d);
     while 0 < m {
         m -= 1;
         buf[m + d] = brighter(buf[m + d], buf[m]);

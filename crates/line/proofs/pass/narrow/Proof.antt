@@ -1,97 +1,72 @@
--- Blocks first, then byte by byte; each loop in terms of the buffer that it found.
-use mathlib.Core.Path.{_≡_, ap₂, _∙_}
+-- Blocks of 64 and of 16 first, then byte by byte; each in terms of the buffer that it found.
+use mathlib.Core.Path.{ap₂, _∙_}
 use Prim.Native.Nat.{_+_, _-_, _≤_, min}
 use native.Mathlib.Omega.{arith}
 use Rattle.lists.specs.Stores.{Filled}
 use Rattle.lists.proofs.Stores.{filled-none, filled-more, filled-end}
 use Rattle.line.specs.Passes.{narrowed}
-use Rattle.line.proofs.Blocks.{narrowed-block, narrowed-join}
+use Rattle.line.proofs.Blocks.{narrowed-join}
 use borrow.Author.Needs.{needs}
 use Rattle.line.proofs.pass.narrow.Statement.{statement}
 use Rattle.line.proofs.pass.narrow.Tie as tie
 
 abbrev Inv-loop : tie.InvT-loop
-Inv-loop buf₀ m d i₀ buf i = (i ≤ m) × Filled buf₀ buf 0 i (narrowed buf₀ d)
+Inv-loop buf₀ m d from i₀ buf i = (i₀ ≤ i) × (i ≤ m) × Filled buf₀ buf i₀ i (narrowed buf₀ d)
 
 abbrev μ-loop : tie.MeasureT-loop
-μ-loop buf₀ m d i₀ buf i = m - i
+μ-loop buf₀ m d from i₀ buf i = m - i
 
-abbrev Inv-loop2 : tie.InvT-loop2
-Inv-loop2 buf₀ m d i₀ buf i = (i₀ ≤ i) × (i ≤ m) × Filled buf₀ buf i₀ i (narrowed buf₀ d)
+narrow-blocks-requires : tie.Need-narrow-blocks-requires Inv-loop μ-loop
+narrow-blocks-requires c κs = search needs
 
-abbrev μ-loop2 : tie.MeasureT-loop2
-μ-loop2 buf₀ m d i₀ buf i = m - i
+narrow-sixteens-requires : tie.Need-narrow-sixteens-requires Inv-loop μ-loop
+narrow-sixteens-requires c κs = let blocks = c .before .before .before .narrow-blocks .ensures in (blocks .0, omega (arith, blocks .1 .same))
 
-loop-holds : tie.Need-loop-holds Inv-loop μ-loop Inv-loop2 μ-loop2
-loop-holds c = (search needs, filled-none _ _ _)
+loop-holds : tie.Need-loop-holds Inv-loop μ-loop
+loop-holds c = (omega arith, c .before .before .narrow-sixteens .ensures .1, filled-none _ _ _)
 
-sub-loop : tie.Need-sub-loop Inv-loop μ-loop Inv-loop2 μ-loop2
-sub-loop c = search needs
+slice-read-darker : tie.Need-slice-read-darker Inv-loop μ-loop
+slice-read-darker c = omega (arith, c .before .before .loop .inv .2 .same, c .before .before .before .before .before .narrow-sixteens .ensures .2 .same, c .before .before .before .before .before .before .before .before .before .narrow-blocks .ensures .1 .same)
 
-darker-at-requires : tie.Need-darker-at-requires Inv-loop μ-loop Inv-loop2 μ-loop2
-darker-at-requires c κs = search needs
-
-put-at-requires : tie.Need-put-at-requires Inv-loop μ-loop Inv-loop2 μ-loop2
-put-at-requires c κs = search needs
-
-add-i : tie.Need-add-i Inv-loop μ-loop Inv-loop2 μ-loop2
-add-i c = search needs
-
-loop-less : tie.Need-loop-less Inv-loop μ-loop Inv-loop2 μ-loop2
-loop-less c = search needs
-
-loop-again : tie.Need-loop-again Inv-loop μ-loop Inv-loop2 μ-loop2
-loop-again c =
-    let d = c .before .before .before .before .before .before .before .before .before .args .d in
-    let at = c .before .before .before .before .before .before .before .loop in
-    let block = c .before .before .before .before .darker-at in
-    (omega (arith, c .before .before .before .before .before .before .loop-test .taken), narrowed-block (block .result) (at .i) d (at .inv .1) (block .ensures) (c .before .before .put-at .ensures))
-
-loop2-holds : tie.Need-loop2-holds Inv-loop μ-loop Inv-loop2 μ-loop2
-loop2-holds c = (search needs, search needs, filled-none _ _ _)
-
-slice-read-darker : tie.Need-slice-read-darker Inv-loop μ-loop Inv-loop2 μ-loop2
-slice-read-darker c = omega (arith, c .before .before .loop2 .inv .2 .same, c .before .before .before .before .loop .inv .1 .same)
-
-add-darker : tie.Need-add-darker Inv-loop μ-loop Inv-loop2 μ-loop2
+add-darker : tie.Need-add-darker Inv-loop μ-loop
 add-darker c = search needs
 
-slice-read-darker-2 : tie.Need-slice-read-darker-2 Inv-loop μ-loop Inv-loop2 μ-loop2
-slice-read-darker-2 c = omega (arith, c .before .before .before .loop2 .inv .2 .same, c .before .before .before .before .before .loop .inv .1 .same)
+slice-read-darker-2 : tie.Need-slice-read-darker-2 Inv-loop μ-loop
+slice-read-darker-2 c = omega (arith, c .before .before .before .loop .inv .2 .same, c .before .before .before .before .before .before .narrow-sixteens .ensures .2 .same, c .before .before .before .before .before .before .before .before .before .before .narrow-blocks .ensures .1 .same)
 
-darker-requires : tie.Need-darker-requires Inv-loop μ-loop Inv-loop2 μ-loop2
+darker-requires : tie.Need-darker-requires Inv-loop μ-loop
 darker-requires c κs = search needs
 
-slice-write-buf : tie.Need-slice-write-buf Inv-loop μ-loop Inv-loop2 μ-loop2
-slice-write-buf c = omega (arith, c .before .before .before .before .loop2 .inv .2 .same, c .before .before .before .before .before .before .loop .inv .1 .same)
+slice-write-buf : tie.Need-slice-write-buf Inv-loop μ-loop
+slice-write-buf c = omega (arith, c .before .before .before .before .loop .inv .2 .same, c .before .before .before .before .before .before .before .narrow-sixteens .ensures .2 .same, c .before .before .before .before .before .before .before .before .before .before .before .narrow-blocks .ensures .1 .same)
 
-add-i-2 : tie.Need-add-i-2 Inv-loop μ-loop Inv-loop2 μ-loop2
-add-i-2 c = search needs
+add-i : tie.Need-add-i Inv-loop μ-loop
+add-i c = search needs
 
-loop2-less : tie.Need-loop2-less Inv-loop μ-loop Inv-loop2 μ-loop2
-loop2-less c = search needs
+loop-less : tie.Need-loop-less Inv-loop μ-loop
+loop-less c = search needs
 
-loop2-again : tie.Need-loop2-again Inv-loop μ-loop Inv-loop2 μ-loop2
-loop2-again c =
-    let d = c .before .before .before .before .before .before .before .before .args .d in
-    let at = c .before .before .before .before .loop2 in
-    let filled = at .inv .2 in
-    let kept = c .before .before .before .before .before .before .loop .inv .1 .same in (
+loop-again : tie.Need-loop-again Inv-loop μ-loop
+loop-again c =
+    let d = c .before .before .before .before .before .before .before .before .before .before .before .before .before .before .args .d in
+    let at = c .before .before .before .before .loop in
+    let filled = at .inv .2 in (
       omega arith,
       omega arith,
-      filled-more filled (omega arith) (omega (arith, filled .same, kept))
+      filled-more filled (omega arith) (omega (arith, filled .same, c .before .before .before .before .before .before .before .narrow-sixteens .ensures .2 .same, c .before .before .before .before .before .before .before .before .before .before .before .narrow-blocks .ensures .1 .same))
           (c .darker .ensures ∙ ap₂ min (filled .above (at .i) (omega arith)) (filled .above (at .i + d) (omega arith))),
     )
 
-same-length : tie.Need-same-length Inv-loop μ-loop Inv-loop2 μ-loop2
-same-length c = c .before .loop2 .inv .2 .same ∙ c .before .before .before .loop .inv .1 .same
+same-length : tie.Need-same-length Inv-loop μ-loop
+same-length c = c .before .loop .inv .2 .same ∙ c .before .before .before .before .narrow-sixteens .ensures .2 .same ∙ c .before .before .before .before .before .before .before .before .narrow-blocks .ensures .1 .same
 
-returns : tie.Need-returns Inv-loop μ-loop Inv-loop2 μ-loop2
+returns : tie.Need-returns Inv-loop μ-loop
 returns c =
-    let m = c .before .before .before .before .before .args .m in
-    let d = c .before .before .before .before .before .args .d in
-    let e : c .before .loop2 .i ≡ m = omega arith in
-    filled-end (narrowed-join d (c .before .before .before .loop .inv .1) (c .before .loop2 .inv .2) (omega arith)) e
+    let d = c .before .before .before .before .before .before .before .before .before .before .before .args .d in
+    let blocks = c .before .before .before .before .before .before .before .before .narrow-blocks .ensures in
+    let sixteens = c .before .before .before .before .narrow-sixteens .ensures in
+    let tail = c .before .loop .inv in
+    filled-end (narrowed-join d (narrowed-join d (blocks .1) (sixteens .2) (sixteens .0)) (tail .2) (tail .0)) (omega arith)
 
 pub narrow-spec : {M : Type 1} → statement M
 narrow-spec =
@@ -99,23 +74,16 @@ narrow-spec =
     (tie.spec
     Inv-loop
     μ-loop
-    Inv-loop2
-    μ-loop2
+    narrow-blocks-requires
+    narrow-sixteens-requires
     loop-holds
-    sub-loop
-    darker-at-requires
-    put-at-requires
-    add-i
-    loop-less
-    loop-again
-    loop2-holds
     slice-read-darker
     add-darker
     slice-read-darker-2
     darker-requires
     slice-write-buf
-    add-i-2
-    loop2-less
-    loop2-again
+    add-i
+    loop-less
+    loop-again
     same-length
     returns)

@@ -1,0 +1,73 @@
+-- The first j values of the block are in t.
+use mathlib.Core.Path.{_≡_}
+use Prim.Native.Nat.{ℕ, _+_, _-_, _≤_, min, zero-le}
+use native.Mathlib.Omega.{arith}
+use lib.ListN.{length, getD}
+use Rattle.lists.specs.Stores.{Filled}
+use Rattle.lists.proofs.Stores.{filled-none, filled-more}
+use borrow.Author.Needs.{needs}
+use Rattle.line.proofs.sixteen.darker_sixteen.Statement.{statement}
+use Rattle.line.proofs.sixteen.darker_sixteen.Tie as tie
+
+abbrev Inv-loop : tie.InvT-loop
+Inv-loop buf i d t₀ j₀ t j = (j ≤ 16) × (length t₀ ≡ 16) × Filled t₀ t 0 j (λ (k : ℕ). min (getD buf (i + k) 0) (getD buf (i + d + k) 0))
+
+abbrev μ-loop : tie.MeasureT-loop
+μ-loop buf i d t₀ j₀ t j = 16 - j
+
+loop-holds : tie.Need-loop-holds Inv-loop μ-loop
+loop-holds c = (omega arith, search needs, filled-none _ _ _)
+
+add-darker : tie.Need-add-darker Inv-loop μ-loop
+add-darker c = search needs
+
+shared-slice-read-darker : tie.Need-shared-slice-read-darker Inv-loop μ-loop
+shared-slice-read-darker c = search needs
+
+add-darker-2 : tie.Need-add-darker-2 Inv-loop μ-loop
+add-darker-2 c = search needs
+
+add-darker-3 : tie.Need-add-darker-3 Inv-loop μ-loop
+add-darker-3 c = search needs
+
+shared-slice-read-darker-2 : tie.Need-shared-slice-read-darker-2 Inv-loop μ-loop
+shared-slice-read-darker-2 c = search needs
+
+darker-requires : tie.Need-darker-requires Inv-loop μ-loop
+darker-requires c κs = search needs
+
+array-write-t : tie.Need-array-write-t Inv-loop μ-loop
+array-write-t c = search needs
+
+add-j : tie.Need-add-j Inv-loop μ-loop
+add-j c = search needs
+
+loop-less : tie.Need-loop-less Inv-loop μ-loop
+loop-less c = search needs
+
+loop-again : tie.Need-loop-again Inv-loop μ-loop
+loop-again c =
+    let filled = c .before .before .before .before .loop .inv .2 in
+    (omega arith, search needs, filled-more filled (omega arith) (omega (arith, filled .same)) (c .darker .ensures))
+
+returns : tie.Need-returns Inv-loop μ-loop
+returns c = λ k h. c .before .loop .inv .2 .within k zero-le (omega arith)
+
+pub darker-sixteen-spec : {M : Type 1} → statement M
+darker-sixteen-spec =
+    tie.close
+    (tie.spec
+    Inv-loop
+    μ-loop
+    loop-holds
+    add-darker
+    shared-slice-read-darker
+    add-darker-2
+    add-darker-3
+    shared-slice-read-darker-2
+    darker-requires
+    array-write-t
+    add-j
+    loop-less
+    loop-again
+    returns)
