@@ -7,6 +7,7 @@
 --   Bends     which columns of a row bend
 --   Slants    one row's part of a pass and a pass over all rows, where lines go along the rows and bend
 --   Steeps    what `open_steep` leaves, by its tests
+--   Shallows  what `open_shallow` leaves, by its tests
 pub mod Rowwise
 pub mod Lines
 pub mod Sides
@@ -15,3 +16,4 @@ pub mod Bents
 pub mod Bends
 pub mod Slants
 pub mod Steeps
+pub mod Shallows

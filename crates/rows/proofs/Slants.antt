@@ -10,6 +10,7 @@
 --   dilate-gone, dilate-last, dilate-both   a dilation's row, likewise
 --   All rows:
 --   erode-more, dilate-more    one row more
+--   cleared-lines              a frame whose rows are all 0
 --   eroded-lines, dilated-lines    the pass, for every line
 -- Assumes nothing.
 use mathlib.Core.Path.{_≡_, refl, sym, ap, ap₂, _∙_, subst}
@@ -175,7 +176,7 @@ module _ (s : Sweep) (up : Bool) (m : List ℕ) (e d : ℕ) (g : List ℕ) (t : 
       erode-both {g₁} {g₂} far f clear in′ second =
           let c : Filled g₁ g₂ (at + n) (at + n + e) (λ (x : ℕ). 0) = clear .done (omega (arith, f .same)) in
           settled (eroded s up m e d g t)
-        (record {
+          (record {
             same = c .same ∙ f .same;
             within = λ x l h.
                 ⊎-elim
@@ -197,7 +198,7 @@ module _ (s : Sweep) (up : Bool) (m : List ℕ) (e d : ℕ) (g : List ℕ) (t : 
       erode-last {g₁} {g₂} {g₃} f b clear in′ last =
           let c : Filled g₂ g₃ (at + n) (at + n + e) (λ (x : ℕ). 0) = clear .done (omega (arith, f .same, b .same)) in
           settled (eroded s up m e d g t)
-        (record {
+          (record {
             same = c .same ∙ b .same ∙ f .same;
             within = λ x l h.
                 ⊎-elim
@@ -238,7 +239,7 @@ module _ (s : Sweep) (up : Bool) (m : List ℕ) (e d : ℕ) (g : List ℕ) (t : 
           → t + d + 1 < s .minors → far ≡ startOf up (s .minors) (s .minor) (t + (d + 1)) → Filled g g₁ (startOf up (s .minors) (s .minor) t) (startOf up (s .minors) (s .minor) t + s .majors) (λ (x : ℕ). dilated s up m e d g t (x - startOf up (s .minors) (s .minor) t))
       dilate-both {g₁} far f in′ second =
           settled (dilated s up m e d g t)
-        (record {
+          (record {
             same = f .same;
             within = λ x l h.
                 ⊎-elim
@@ -260,7 +261,7 @@ module _ (s : Sweep) (up : Bool) (m : List ℕ) (e d : ℕ) (g : List ℕ) (t : 
       unfolding bent
       dilate-last {g₁} f in′ last =
           settled (dilated s up m e d g t)
-        (record {
+          (record {
             same = f .same;
             within = λ x l h.
                 ⊎-elim
@@ -315,6 +316,7 @@ module _ (s : Sweep) (up : Bool) (m : List ℕ) (e d : ℕ) {b a : List ℕ} (pa
           (λ q. onward-in s up m e d a t k q ∙ ahead-kept done h (k + e) (rowsOn d m k) q ∙ sym (onward-in s up m e d b t k q))
           (λ q. onward-out s up m e d a t k q ∙ sym (onward-out s up m e d b t k q))
           (less-or-not (k + e) (s .majors))
+
       row : (k : ℕ) → k < s .majors
           → eroded s up m e d a t (startOf up (s .minors) (s .minor) t + k - startOf up (s .minors) (s .minor) t) ≡ eroded s up m e d b t k
       row k n =
@@ -333,6 +335,7 @@ module _ (s : Sweep) (up : Bool) (m : List ℕ) (e d : ℕ) {b a : List ℕ} (pa
           (λ q. backward-out s up m e d a t k q ∙ sym (backward-out s up m e d b t k q))
           (λ q. backward-in s up m e d a t k q ∙ ahead-kept done h (k - e) (rowsOn d m (k - e)) (omega arith) ∙ sym (backward-in s up m e d b t k q))
           (less-or-not k e)
+
       row : (k : ℕ) → k < s .majors
           → dilated s up m e d a t (startOf up (s .minors) (s .minor) t + k - startOf up (s .minors) (s .minor) t) ≡ dilated s up m e d b t k
       row k n =
@@ -383,8 +386,13 @@ turned-start false N S k h = start-down N S k
 turned-start true N S k h = let e : N - 1 - (N - 1 - k) ≡ k = omega arith in start-up N S (N - 1 - k) ∙ ap (λ (x : ℕ). x * S) e
 
 -- the pixels of a row stand side by side
-row-by-row : (s : Sweep) → s .major ≡ 1 → (i k : ℕ) → spot s i k ≡ k * s .minor + i
+pub row-by-row : (s : Sweep) → s .major ≡ 1 → (i k : ℕ) → spot s i k ≡ k * s .minor + i
 row-by-row s flat i k = let e : i * s .major ≡ i = ap (λ (x : ℕ). i * x) flat ∙ mul-one i in omega (arith, e)
+
+-- a frame whose rows are all 0
+pub cleared-lines : (s : Sweep) → s .major ≡ 1 → {b a : List ℕ} → RowsAre (rowsOf (s .minor)) (s .majors) 0 (s .minors) (λ (i k : ℕ). 0) b a
+    → PixelsAre (spot s) (s .majors) (s .minors) (λ (i k : ℕ). 0) b a
+cleared-lines s flat done = columns-pixels done (spot s) (λ (k : ℕ). k) (λ k h. h) (λ t h. refl) (λ i k h. row-by-row s flat i k)
 
 module _ (s : Sweep) (m : List ℕ) (e d : ℕ) (sane : Sane s) (flat : s .major ≡ 1) (marks : Bends (s .run) (s .rise) e d (s .majors - e) m) where
   turned-spot : (up : Bool) (i k : ℕ) → k < s .minors → spot s i k ≡ startOf up (s .minors) (s .minor) (turned up (s .minors) k) + i
@@ -410,6 +418,7 @@ module _ (s : Sweep) (m : List ℕ) (e d : ℕ) (sane : Sane s) (flat : s .major
       lane-on i k n h false f =
           lane-down (s .minors) (s .minor) b (shift s) (spot s) (row-by-row s flat) k i (i + e) (rowsOn d m i) n
           (omega (arith, shift-rising s f i, shift-rising s f (i + e), marks i (omega arith), moved-less (i + e) h))
+
       ahead : (i k : ℕ) → k < s .minors
           → onward s (s .falling) m e d b (turned (s .falling) (s .minors) k) i
           ≡ cond (ltb (i + e) (s .majors)) (laneAt (shift s) (spot s) (s .minors) b (k + shift s i) (i + e)) 0
@@ -430,6 +439,7 @@ module _ (s : Sweep) (m : List ℕ) (e d : ℕ) (sane : Sane s) (flat : s .major
     where
       moved : (i : ℕ) → e ≤ i → i < s .majors → r (s .run) (s .rise) i ≡ r (s .run) (s .rise) (i - e) + rowsOn d m (i - e)
       moved i h l = let q : i ≡ i - e + e = omega arith in ap (r (s .run) (s .rise)) q ∙ marks (i - e) (omega arith)
+
       lane-back : (i k : ℕ) → i < s .majors → k < s .minors → e ≤ i → (f : Bool) → s .falling ≡ f
           → aheadAt (not f) (s .minors) (s .minor) b (turned (not f) (s .minors) k) (i - e) (rowsOn d m (i - e))
           ≡ laneAt (shift s) (spot s) (s .minors) b (k + shift s i) (i - e)
@@ -439,6 +449,7 @@ module _ (s : Sweep) (m : List ℕ) (e d : ℕ) (sane : Sane s) (flat : s .major
       lane-back i k l n h false f =
           lane-up (s .minors) (s .minor) b (shift s) (spot s) (row-by-row s flat) k i (i - e) (rowsOn d m (i - e)) n
           (omega (arith, shift-rising s f i, shift-rising s f (i - e), moved i h l, moved-less i l))
+
       before : (i k : ℕ) → i < s .majors → k < s .minors
           → backward s (not (s .falling)) m e d b (turned (not (s .falling)) (s .minors) k) i
           ≡ cond (ltb i e) 0 (laneAt (shift s) (spot s) (s .minors) b (k + shift s i) (i - e))

@@ -19,7 +19,11 @@ fn start(s: Sweep, up: bool, t: usize) -> usize
 {
     let rows = s.minors;
     let stride = s.minor;
-    if up { (rows - 1 - t) * stride } else { t * stride }
+    if up {
+        (rows - 1 - t) * stride
+    } else {
+        t * stride
+    }
 }
 
 // Each pixel of row t becomes the darker of itself and its line's pixel e columns on, which stands `step` rows on, or one more where it is marked.

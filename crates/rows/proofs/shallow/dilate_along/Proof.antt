@@ -1,69 +1,91 @@
+-- The frame holds its lines dilated by windows of w pixels.
+use mathlib.Core.Path.{_≡_, refl, _∙_}
+use Prim.Native.Nat.{_-_, _*_, _≤_}
+use native.Mathlib.Nat.{mul-le-mul}
+use native.Mathlib.Omega.{arith}
+use lib.ListN
+use Rattle.answer.specs.Limits.{longest, steepest}
+use Rattle.frame.specs.Sweep.{shift}
+use Rattle.rows.specs.Rows.{spot}
+use Rattle.rows.specs.Passes.{DilatesLines}
+use Rattle.rows.proofs.Lines.{dilated-start, dilated-step, dilates-end}
+use Rattle.rows.proofs.Slants.{dilated-lines}
 use borrow.Author.Needs.{needs}
 use Rattle.rows.proofs.shallow.dilate_along.Statement.{statement}
 use Rattle.rows.proofs.shallow.dilate_along.Tie as tie
-use Rattle.rows.proofs.shallow.dilate_along.Reads as reads
-use Rattle.rows.proofs.shallow.dilate_along.Lts as lts
-use Rattle.line.proofs.growth.Reads as growth-reads
-use Rattle.rows.proofs.bent.mark_bends.Reads as mark-bends-reads
-use Rattle.rows.proofs.slant.dilate_slants.Reads as dilate-slants-reads
 
 abbrev Inv-loop : tie.InvT-loop
-Inv-loop buf₀ bends₀ s length w₀ buf bends w = ?
+Inv-loop buf₀ bends₀ s length w₀ buf bends w = (lib.ListN.length buf ≡ lib.ListN.length buf₀) × (lib.ListN.length bends ≡ lib.ListN.length bends₀) × (1 ≤ w) × (w ≤ length) × DilatesLines s length w buf₀ buf
 
 abbrev μ-loop : tie.MeasureT-loop
-μ-loop buf₀ bends₀ s length w₀ buf bends w = ?
+μ-loop buf₀ bends₀ s length w₀ buf bends w = length - w
 
--- src/shallow.rt:36:5
 loop-holds : tie.Need-loop-holds Inv-loop μ-loop
-loop-holds c = search needs
+loop-holds c = (refl, refl, search needs, search needs, record { pixels = λ f q. dilated-start _ _ _ _ f _ (q .pixels) })
 
--- src/shallow.rt:37:13
 growth-requires : tie.Need-growth-requires Inv-loop μ-loop
 growth-requires c κs = search needs
 
--- src/shallow.rt:38:20
 mul-step : tie.Need-mul-step Inv-loop μ-loop
-mul-step c = search needs
+mul-step c =
+    let s = c .before .before .before .before .before .before .args .s in
+    let sane = c .before .before .before .before .before .before .pre .0 .sane in
+    let e = c .before .growth .result in
+    let fits : e * s .rise ≤ longest * steepest =
+    mul-le-mul {n₁ = e} {m₁ = s .rise} {n₂ = longest} {m₂ = steepest} (omega (arith, c .before .growth .ensures, c .before .before .before .loop .inv, c .before .before .before .before .before .before .pre, sane .majors)) (omega (arith, sane .slow, sane .run)) in
+    omega arith
 
--- src/shallow.rt:38:20
 div-step : tie.Need-div-step Inv-loop μ-loop
-div-step c = search needs
+div-step c = omega (arith, c .before .before .before .before .before .before .before .pre .0 .sane .moves)
 
--- src/shallow.rt:39:27
 sub-mark-bends : tie.Need-sub-mark-bends Inv-loop μ-loop
-sub-mark-bends c = search needs
+sub-mark-bends c = omega (arith, c .before .before .before .before .growth .ensures, c .before .before .before .before .before .before .loop .inv, c .before .before .before .before .before .before .before .before .before .pre)
 
--- src/shallow.rt:39:9
 mark-bends-requires : tie.Need-mark-bends-requires Inv-loop μ-loop
-mark-bends-requires c κs = search needs
+mark-bends-requires c κs =
+    let pre = c .before .before .before .before .before .before .before .before .before .pre in
+    let sane = pre .0 .sane in
+    let at = c .before .before .before .before .before .before .loop in
+    let grown = c .before .before .before .before .growth in
+    (omega (arith, pre, at .inv .1), sane .moves, sane .run, sane .slow, omega (arith, sane .majors), omega (arith, grown .ensures, at .inv, pre, sane .majors), refl)
 
--- src/shallow.rt:40:9
 dilate-slants-requires : tie.Need-dilate-slants-requires Inv-loop μ-loop
-dilate-slants-requires c κs = search needs
+dilate-slants-requires c κs =
+    let pre = c .before .before .before .before .before .before .before .before .before .before .before .before .before .before .before .pre in
+    let slanted = pre .0 in
+    let at = c .before .before .before .before .before .before .before .before .before .before .before .before .loop in
+    (record { sane = slanted .sane; next = slanted .next; apart = slanted .apart; room = omega (arith, slanted .room, at .inv .0) }, omega (arith, c .before .before .before .before .before .before .before .before .before .before .growth .ensures, at .inv, pre), omega (arith, pre, at .inv .1, c .before .before .before .before .before .mark-bends .ensures .0))
 
--- src/shallow.rt:41:9
 add-w : tie.Need-add-w Inv-loop μ-loop
 add-w c = search needs
 
--- src/shallow.rt:36:5
 loop-less : tie.Need-loop-less Inv-loop μ-loop
 loop-less c = search needs
 
--- src/shallow.rt:36:5
 loop-again : tie.Need-loop-again Inv-loop μ-loop
-loop-again c = search needs
+loop-again c =
+    let s = c .before .before .before .before .before .before .before .before .before .before .before .before .before .before .before .before .before .before .args .s in
+    let length = c .before .before .before .before .before .before .before .before .before .before .before .before .before .before .before .before .before .before .args .length in
+    let pre = c .before .before .before .before .before .before .before .before .before .before .before .before .before .before .before .before .before .before .pre in
+    let at = c .before .before .before .before .before .before .before .before .before .before .before .before .before .before .before .loop in
+    let grown = c .before .before .before .before .before .before .before .before .before .before .before .before .before .growth in
+    let marked = c .before .before .before .before .before .before .before .before .mark-bends in
+    let pass = c .before .before .dilate-slants in (
+      pass .kept .0 ∙ at .inv .0,
+      marked .ensures .0 ∙ at .inv .1,
+      omega (arith, at .inv),
+      omega (arith, at .inv, grown .ensures),
+      record { pixels = λ f q. dilated-step (shift s) (spot s) (s .minors) (s .majors) f length (at .w) (grown .result) (at .inv .4 .pixels f q) (dilated-lines s _ (grown .result) _ (pre .0 .sane) (pre .0 .next) (marked .ensures .1) (pass .ensures)) (omega (arith, at .inv)) (omega (arith, grown .ensures)) },
+    )
 
--- src/shallow.rt:31:1
 same-length : tie.Need-same-length Inv-loop μ-loop
-same-length c = search needs
+same-length c = c .before .loop .inv .0
 
--- src/shallow.rt:31:1
 same-length-2 : tie.Need-same-length-2 Inv-loop μ-loop
-same-length-2 c = search needs
+same-length-2 c = c .before .loop .inv .1
 
--- src/shallow.rt:31:1
 returns : tie.Need-returns Inv-loop μ-loop
-returns c = search needs
+returns c = dilates-end (c .before .loop .inv .4) (omega arith)
 
 pub dilate-along-spec : {M : Type 1} → statement M
 dilate-along-spec =

@@ -9,8 +9,8 @@ use Rattle.frame.specs.Sweep.{Accepted}
 use Rattle.frame.proofs.Shapes.{sweep-accepted}
 use Rattle.rows.proofs.Steeps.{steep-kept, bytes-needed, steep-down, steep-done}
 use borrow.Author.Needs.{needs}
-use Rattle.rows.proofs.open.open_steep.Statement.{statement}
-use Rattle.rows.proofs.open.open_steep.Tie as tie
+use Rattle.rows.proofs.steep.open_steep.Statement.{statement}
+use Rattle.rows.proofs.steep.open_steep.Tie as tie
 
 is-frame-requires : tie.Need-is-frame-requires
 is-frame-requires c κs = search needs

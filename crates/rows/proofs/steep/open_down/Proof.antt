@@ -5,8 +5,8 @@ use Rattle.rows.specs.Rows.{spot}
 use Rattle.rows.proofs.Lines.{rows-pixels, opened-none, dilated-end}
 use Rattle.rows.proofs.Downs.{side-by-side}
 use borrow.Author.Needs.{needs}
-use Rattle.rows.proofs.open.open_down.Statement.{statement}
-use Rattle.rows.proofs.open.open_down.Tie as tie
+use Rattle.rows.proofs.steep.open_down.Statement.{statement}
+use Rattle.rows.proofs.steep.open_down.Tie as tie
 
 clear-rows-requires : tie.Need-clear-rows-requires
 clear-rows-requires c κs = search needs

@@ -1,33 +1,31 @@
--- The frame holds its lines dilated by windows of w pixels.
+-- The frame holds its lines eroded by windows of w pixels.
 use mathlib.Core.Path.{_≡_, _∙_, refl}
-use Prim.Native.Nat.{_-_, _≤_, zero-le}
-use native.Mathlib.Nat.{le-refl}
+use Prim.Native.Nat.{_-_, _≤_}
 use native.Mathlib.Omega.{arith}
 use lib.ListN
 use Rattle.frame.specs.Sweep.{shift}
-use Rattle.rows.specs.Passes.{DilatesLines}
-use Rattle.rows.proofs.Rowwise.{parted-rows, rows-join}
-use Rattle.rows.proofs.Lines.{rows-pixels, dilated-start, dilated-step, dilates-end}
+use Rattle.rows.specs.Passes.{ErodesLines}
+use Rattle.rows.proofs.Lines.{rows-pixels, eroded-start, eroded-step, erodes-end}
 use Rattle.rows.specs.Rows.{spot}
-use Rattle.rows.proofs.Downs.{side-by-side, rows-before-all}
+use Rattle.rows.proofs.Downs.{side-by-side}
 use borrow.Author.Needs.{needs}
-use Rattle.rows.proofs.open.dilate_down.Statement.{statement}
-use Rattle.rows.proofs.open.dilate_down.Tie as tie
+use Rattle.rows.proofs.steep.erode_down.Statement.{statement}
+use Rattle.rows.proofs.steep.erode_down.Tie as tie
 
 abbrev Inv-loop : tie.InvT-loop
-Inv-loop buf₀ s length w₀ buf w = (lib.ListN.length buf ≡ lib.ListN.length buf₀) × (1 ≤ w) × (w ≤ length) × DilatesLines s length w buf₀ buf
+Inv-loop buf₀ s length w₀ buf w = (lib.ListN.length buf ≡ lib.ListN.length buf₀) × (1 ≤ w) × (w ≤ length) × ErodesLines s w buf₀ buf
 
 abbrev μ-loop : tie.MeasureT-loop
 μ-loop buf₀ s length w₀ buf w = length - w
 
 loop-holds : tie.Need-loop-holds Inv-loop μ-loop
-loop-holds c = (refl, search needs, search needs, record { pixels = λ f e. dilated-start _ _ _ _ f _ (e .pixels) })
+loop-holds c = (refl, search needs, search needs, record { pixels = eroded-start _ _ _ _ _ })
 
 growth-requires : tie.Need-growth-requires Inv-loop μ-loop
 growth-requires c κs = search needs
 
-dilate-rows-requires : tie.Need-dilate-rows-requires Inv-loop μ-loop
-dilate-rows-requires c κs =
+erode-rows-requires : tie.Need-erode-rows-requires Inv-loop μ-loop
+erode-rows-requires c κs =
     let down = c .before .before .before .before .before .pre .0 in
     let at = c .before .before .before .loop in
     (record { sane = down .sane; next = down .next; apart = down .apart; room = omega (arith, down .room, at .inv .0) }, omega (arith, at .inv, c .before .growth .ensures, c .before .before .loop-test .taken), omega (arith, c .before .before .before .before .before .pre, at .inv, c .before .growth .ensures))
@@ -45,31 +43,28 @@ loop-again c =
     let pre = c .before .before .before .before .before .before .before .before .pre in
     let at = c .before .before .before .before .before .before .loop in
     let grown = c .before .before .before .before .growth in
-    let pass = c .before .before .dilate-rows in
-    let flat = side-by-side s (pre .0 .next) in
-    let parted = parted-rows (s .major) (s .minors) (s .majors) (pre .0 .apart) in
-    let whole = rows-join parted (rows-before-all (shift s) (spot s) (s .major) (s .minors) (s .majors) (grown .result) flat parted _) (pass .ensures) zero-le (omega (arith, at .inv, pre, grown .ensures)) (le-refl (s .majors)) in (
+    let pass = c .before .before .erode-rows in (
       pass .kept .0 ∙ at .inv .0,
       omega (arith, at .inv),
       omega (arith, at .inv, grown .ensures),
-      record { pixels = λ f e. dilated-step (shift s) (spot s) (s .minors) (s .majors) f length (at .w) (grown .result) (at .inv .3 .pixels f e) (rows-pixels whole (spot s) flat) (omega (arith, at .inv)) (omega (arith, grown .ensures)) },
+      record { pixels = eroded-step (shift s) (spot s) (s .minors) (s .majors) _ (at .w) (grown .result) (at .inv .3 .pixels) (rows-pixels (pass .ensures) (spot s) (side-by-side s (pre .0 .next))) (omega (arith, at .inv)) (omega (arith, grown .ensures)) },
     )
 
 same-length : tie.Need-same-length Inv-loop μ-loop
 same-length c = c .before .loop .inv .0
 
 returns : tie.Need-returns Inv-loop μ-loop
-returns c = dilates-end (c .before .loop .inv .3) (omega arith)
+returns c = erodes-end (c .before .loop .inv .3) (omega arith)
 
-pub dilate-down-spec : {M : Type 1} → statement M
-dilate-down-spec =
+pub erode-down-spec : {M : Type 1} → statement M
+erode-down-spec =
     tie.close
     (tie.spec
     Inv-loop
     μ-loop
     loop-holds
     growth-requires
-    dilate-rows-requires
+    erode-rows-requires
     add-w
     loop-less
     loop-again

@@ -1,0 +1,58 @@
+-- No window fits, or the erosion and then the dilation of that.
+use Prim.Native.Nat.{zero-le}
+use native.Mathlib.Omega.{arith}
+use Rattle.frame.specs.Sweep.{shift}
+use Rattle.rows.specs.Rows.{spot}
+use Rattle.rows.proofs.Lines.{opened-none, dilated-end}
+use Rattle.rows.proofs.Slants.{cleared-lines}
+use borrow.Author.Needs.{needs}
+use Rattle.rows.proofs.shallow.open_along.Statement.{statement}
+use Rattle.rows.proofs.shallow.open_along.Tie as tie
+
+clear-rows-requires : tie.Need-clear-rows-requires
+clear-rows-requires c κs = let slanted = c .before .before .before .before .before .pre .0 in (slanted .apart, zero-le, slanted .room)
+
+same-length : tie.Need-same-length
+same-length c = search needs
+
+returns : tie.Need-returns
+returns c =
+    let s = c .before .before .before .before .before .before .before .before .args .s in
+    opened-none (shift s) (spot s) (s .minors) (s .majors) _ (c .before .before .before .before .before .before .before .before .args .length) (c .before .before .before .before .if1 .taken)
+    (cleared-lines s (c .before .before .before .before .before .before .before .before .pre .0 .next) (c .before .before .clear-rows .ensures))
+
+erode-along-requires : tie.Need-erode-along-requires
+erode-along-requires c κs = let pre = c .before .before .before .before .before .before .pre in (pre .0, pre .1, omega arith, pre .2)
+
+dilate-along-requires : tie.Need-dilate-along-requires
+dilate-along-requires c κs =
+    let pre = c .before .before .before .before .before .before .before .before .before .before .before .before .before .pre in
+    let slanted = pre .0 in
+    let eroded = c .before .before .before .before .before .before .erode-along in
+    (record { sane = slanted .sane; next = slanted .next; apart = slanted .apart; room = omega (arith, slanted .room, eroded .kept .0) }, pre .1, omega arith, omega (arith, pre .2, eroded .kept .1))
+
+same-length-2 : tie.Need-same-length-2
+same-length-2 c = search needs
+
+same-length-3 : tie.Need-same-length-3
+same-length-3 c = search needs
+
+returns-2 : tie.Need-returns-2
+returns-2 c =
+    let s = c .before .before .before .before .before .before .before .before .before .before .before .before .before .before .before .before .before .before .args .s in
+    let buf = c .before .before .before .before .before .before .before .before .before .before .before .before .before .before .before .before .before .before .args .buf .now in
+    dilated-end (shift s) (spot s) (s .minors) (s .majors) buf (c .before .before .before .before .before .before .before .before .before .before .before .before .before .before .before .before .before .before .args .length) (c .before .before .before .before .before .before .before .before .before .before .before .before .before .before .before .before .before .before .pre .1)
+    (c .before .before .before .before .dilate-along .ensures .pixels buf (c .before .before .before .before .before .before .before .before .before .before .before .erode-along .ensures))
+
+pub open-along-spec : {M : Type 1} → statement M
+open-along-spec =
+    tie.close
+    (tie.spec
+    clear-rows-requires
+    same-length
+    returns
+    erode-along-requires
+    dilate-along-requires
+    same-length-2
+    same-length-3
+    returns-2)
