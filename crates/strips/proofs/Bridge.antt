@@ -4,33 +4,27 @@
 --   painted-lines              every line set is a frame painted
 -- Assumes nothing.
 use mathlib.Core.Path.{_≡_, refl, sym, ap, ap₂, _∙_, subst}
-use mathlib.Core.Bool.{Bool, true, false, cond, and-false}
-use mathlib.Core.Logic.{_⊎_, inl, inr, ⊎-elim}
-use mathlib.Core.List.{List, [], _∷_, map, List·Memᴰ}
-use Prim.Native.Nat.{ℕ, zero, suc, _+_, _-_, _*_, _≤_, _<_}
+use mathlib.Core.Bool.{Bool, true, false, and-false}
+use mathlib.Core.List.{List, [], _∷_, List·Memᴰ}
+use Prim.Native.Nat.{ℕ, zero, suc, _+_, _-_, _≤_, _<_}
 use native.Mathlib.Nat.{le-of-suc-le-suc}
 use native.Mathlib.Omega.{arith}
 use borrow.Author.Tests.{eq-eqb, ne-eqb}
-use lib.Dec.{eqb}
-use lib.ListN.{length, getD, List·getD-eq-default}
+use lib.ListN.{length, getD}
 use lib.IntN.{subℕ}
 use Rattle.lists.specs.Tables.{table}
-use Rattle.lists.proofs.Cases.{less-or-not}
 use Rattle.lists.proofs.Tables.{length-table, getD-table}
 use Rattle.lists.proofs.Picks.{those-in}
 use Rattle.line.specs.Windows.{opened}
-use Rattle.line.proofs.Padding.{opened-inner}
 use Rattle.frame.specs.declared.direction.Direction.{Direction}
 use Rattle.frame.specs.declared.shape.Shape.{Shape}
-use Rattle.frame.specs.declared.sweep.Sweep.{Sweep}
 use Rattle.frame.specs.Direction.{shallow}
-use Rattle.frame.specs.Shape.{shape}
 use Rattle.frame.specs.Lines.{Pixel, at, lineOf, pixels, place, lineRead}
 use Rattle.frame.specs.Sweep as sweep
 use Rattle.frame.specs.Sweep.{sweepOf, shift, low, lines, hit, cell, value, Accepted, Sane}
-use Rattle.frame.specs.Span.{touched, Spans}
+use Rattle.frame.specs.Span.{Spans}
 use Rattle.frame.proofs.Shapes.{accepted-some, sweep-sane}
-use Rattle.frame.proofs.Walks.{spot, hit-at, value-on, value-off, cell-place, pixels-are, values-are, cells-in}
+use Rattle.frame.proofs.Walks.{spot, hit-at, value-on, cell-place, pixels-are, values-are, cells-in}
 use Rattle.frame.proofs.Pixels.{its-line}
 use Rattle.frame.proofs.ByLines.{cell-pixel}
 use Rattle.frame.proofs.Spans.{shift-le, spans, span-hit, span-holds, values-span, pixels-span}

@@ -31,7 +31,7 @@ use Rattle.frame.specs.Sweep.{sweepOf, sweepFor, shift, lines, hit, cell, Accep
 use Rattle.frame.specs.Span.{Spans}
 use Rattle.frame.proofs.Shapes.{framed}
 use Rattle.frame.proofs.Walks.{spot, cell-place}
-use Rattle.strips.specs.Pixels.{openedPixel, Painted}
+use Rattle.strips.specs.Pixels.{Painted}
 use Rattle.strips.specs.Engine.{stripBytes}
 use Rattle.strips.specs.Engine.{claims, packed, FrameClaimed}
 use Rattle.strips.specs.Strips.{Eight, valueAt, RowPut, openedOn, StripOpened, Placed, block, strip, below, bufferAt, restrided, RowClaimed, StripClaimed, LinesClaimed}

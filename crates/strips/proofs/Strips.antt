@@ -8,7 +8,7 @@
 --   placed-strip, lines-none, lines-more    a strip put back is eight lines set; one strip after the other
 -- Assumes nothing.
 use mathlib.Core.Path.{_≡_, refl, sym, ap, _∙_, subst}
-use mathlib.Core.Bool.{Bool, true, false, cond, true≢false}
+use mathlib.Core.Bool.{Bool, true, false, true≢false}
 use mathlib.Core.Logic.{_⊎_, inl, inr, ⊎-elim}
 use mathlib.Core.List.{List}
 use Prim.Native.Nat.{ℕ, _+_, _-_, _*_, _≤_, _<_}
@@ -31,7 +31,7 @@ use Rattle.frame.proofs.Spans.{span-holds}
 use Rattle.strips.specs.Strips as strips
 use Rattle.strips.specs.Strips.{whole, openedOn, Stands, Eight, Stored, valueAt, Row, Laid, StripOpened, Placed, block, strip, below, bufferAt}
 use Rattle.strips.proofs.Eights.{steps-le}
-use Rattle.strips.proofs.Places.{Region, placed-none, placed-as, placed-join}
+use Rattle.strips.proofs.Places.{placed-none, placed-as, placed-join}
 
 -- ---- one major coordinate more
 
