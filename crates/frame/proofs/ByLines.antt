@@ -1,5 +1,7 @@
 -- A frame treated line by line: from the sweep's indices to document 01's line numbers, and what it says of each pixel.
 --   by-lines        every line of the sweep treated is every line of document 01 treated
+--   cell-pixel      each byte of a line is a pixel's
+--   frames-same     two frames that agree at each pixel and between the rows are the same
 --   one-outcome     one source and destination allow one outcome alone
 --   at-place        a line's pixel has the value at its place on the line
 --   own-value       each pixel of the frame has the value at its place on its own line
@@ -30,7 +32,7 @@ use Rattle.frame.proofs.Scatters.{sized-none, flat}
 use Rattle.frame.proofs.Pixels.{on-its-line}
 
 -- byte i is no pixel's
-abbrev Gap : Shape → ℕ → Type 0
+abbrev pub Gap : Shape → ℕ → Type 0
 Gap sh i = (x y : ℕ) → x < sh .width → y < sh .height → i ≡ place sh (at x y) → ⊥
 
 -- ---- from the sweep to the lines
@@ -52,7 +54,7 @@ steep-cell sh a b f u i m none =
     let h = hits s u (m .i) (m .passed) in
     none (u - shift s (m .i)) (m .i) (omega (arith, h)) (m .below) (m .is ∙ omega arith)
 
-cell-pixel : (sh : Shape) (d : Direction) (u i : ℕ) → List·Memᴰ i (cells (sweepOf sh d) u (sweepOf sh d .majors)) → Gap sh i → ⊥
+pub cell-pixel : (sh : Shape) (d : Direction) (u i : ℕ) → List·Memᴰ i (cells (sweepOf sh d) u (sweepOf sh d .majors)) → Gap sh i → ⊥
 unfolding sweepOf
 cell-pixel sh d u i m none = go (shallow d) refl
   where
@@ -98,19 +100,12 @@ agree h k (b ∷ cs) c e m = go (agree h k cs c) (List·Memᴰ·cases-cons m)
 row-of : (w i x y : ℕ) → x < w → i ≡ y * w + x → (i % w ≡ x) × (i / w ≡ y)
 row-of w i x y h e = flat w (i % w) (i / w) x y (mod-lt i (omega arith)) h (omega (arith, div-add-mod' i w))
 
-pub one-outcome : (φ : List ℕ → List ℕ) (f : List ℕ) (sh : Shape) (d : Direction) (g a b : List ℕ) → isFrame sh ≡ true
-    → ByLines φ f sh d g a → ByLines φ f sh d g b → a ≡ b
-one-outcome φ f sh d g a b ok p q =
-    ext-getD 0 a b (p .same ∙ sym (q .same)) (λ i h. byte i (less-or-not (i % sh .stride) (sh .width)) (less-or-not (i / sh .stride) (sh .height)))
+pub frames-same : (sh : Shape) (a b : List ℕ) → isFrame sh ≡ true → length a ≡ length b
+    → ((x y : ℕ) → x < sh .width → y < sh .height → getD a (place sh (at x y)) 0 ≡ getD b (place sh (at x y)) 0)
+    → ((i : ℕ) → Gap sh i → getD a i 0 ≡ getD b i 0) → a ≡ b
+frames-same sh a b ok long pixel gap =
+    ext-getD 0 a b long (λ i h. byte i (less-or-not (i % sh .stride) (sh .width)) (less-or-not (i / sh .stride) (sh .height)))
   where
-    pixel : (x y : ℕ) → x < sh .width → y < sh .height → getD a (place sh (at x y)) 0 ≡ getD b (place sh (at x y)) 0
-    pixel x y h k =
-        agree (λ (c : Pixel). getD a (place sh c) 0) (λ (c : Pixel). getD b (place sh c) 0) (pixels sh d (lineOf d x y)) (at x y)
-        (p .lines (lineOf d x y) ∙ sym (q .lines (lineOf d x y))) (on-its-line sh d x y h k)
-
-    gap : (i : ℕ) → Gap sh i → getD a i 0 ≡ getD b i 0
-    gap i h = p .gaps i h ∙ sym (q .gaps i h)
-
     shaped : Framed sh
     shaped = framed sh ok
 
@@ -119,6 +114,16 @@ one-outcome φ f sh d g a b ok p q =
     byte i (inl x) (inl y) = subst (λ (j : ℕ). getD a j 0 ≡ getD b j 0) (div-add-mod' i (sh .stride)) (pixel (i % sh .stride) (i / sh .stride) x y)
     byte i (inl x) (inr y) = gap i (λ x' y' h k e. let z = row-of (sh .stride) i x' y' (omega (arith, shaped)) e .1 in omega arith)
     byte i (inr x) y = gap i (λ x' y' h k e. let z = row-of (sh .stride) i x' y' (omega (arith, shaped)) e .0 in omega arith)
+
+pub one-outcome : (φ : List ℕ → List ℕ) (f : List ℕ) (sh : Shape) (d : Direction) (g a b : List ℕ) → isFrame sh ≡ true
+    → ByLines φ f sh d g a → ByLines φ f sh d g b → a ≡ b
+one-outcome φ f sh d g a b ok p q =
+    frames-same sh a b ok (p .same ∙ sym (q .same)) pixel (λ i h. p .gaps i h ∙ sym (q .gaps i h))
+  where
+    pixel : (x y : ℕ) → x < sh .width → y < sh .height → getD a (place sh (at x y)) 0 ≡ getD b (place sh (at x y)) 0
+    pixel x y h k =
+        agree (λ (c : Pixel). getD a (place sh c) 0) (λ (c : Pixel). getD b (place sh c) 0) (pixels sh d (lineOf d x y)) (at x y)
+        (p .lines (lineOf d x y) ∙ sym (q .lines (lineOf d x y))) (on-its-line sh d x y h k)
 
 -- ---- each pixel has the value at its place on its own line
 

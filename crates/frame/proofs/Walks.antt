@@ -1,6 +1,7 @@
 -- The sweep has document 01's lines: the line of index u has the number u − low, and its pixels are those where the sweep has a hit, in line order.
 --   hits, hit-at, hit-below, hit-past, value-on, value-off    what a hit says, and what a line's value is
 --   number-is         the number of a pixel's line, by the line's index
+--   cell-place        the byte of a line at a major coordinate is a pixel's
 --   pixels-are        the pixels of a line; places-are: their bytes; values-are: what a frame has there
 --   pixels-none       a number below every index has no pixels
 --   cells-mem, cells-in    what is among a line's bytes
@@ -113,6 +114,14 @@ module _ (m n major minor a b : ℕ) (moves : 1 ≤ a) where
 abbrev pub spot : Direction → ℕ → ℕ → Pixel
 spot d i j = cond (shallow d) (at i j) (at j i)
 
+pub cell-place : (sh : Shape) (d : Direction) (u i : ℕ) → cell (sweepOf sh d) u i ≡ place sh (spot d i (u - shift (sweepOf sh d) i))
+unfolding sweepOf cell
+cell-place sh d u i = go (shallow d) refl
+  where
+    go : (t : Bool) → shallow d ≡ t → cell (sweepOf sh d) u i ≡ place sh (spot d i (u - shift (sweepOf sh d) i))
+    go true e = rw e (omega arith)
+    go false e = rw e (omega arith)
+
 moving : (d : Direction) → 1 ≤ natAbs (d .p) + natAbs (d .q) → (t : Bool) → shallow d ≡ t → 1 ≤ cond t (natAbs (d .p)) (natAbs (d .q))
 moving d h true e = let k = leb-true (natAbs (d .q)) (natAbs (d .p)) e in omega arith
 moving d h false e = let k = leb-false (natAbs (d .q)) (natAbs (d .p)) e in omega arith
@@ -140,21 +149,13 @@ module _ (sh : Shape) (d : Direction) (some : 1 ≤ natAbs (d .p) + natAbs (d .q
       go false e none =
           rw e (unswept (sh .height) (sh .width) (sh .stride) 1 (natAbs (d .q)) (natAbs (d .p)) (moving d some false e) (opposite d) (λ y x. at x y) k (rw e at none))
 
-  place-is : (i j : ℕ) → place sh (spot d i j) ≡ i * sweepOf sh d .major + j * sweepOf sh d .minor
-  unfolding sweepOf
-  place-is i j = go (shallow d) refl
-    where
-      go : (t : Bool) → shallow d ≡ t → place sh (spot d i j) ≡ i * sweepOf sh d .major + j * sweepOf sh d .minor
-      go true e = rw e (omega arith)
-      go false e = rw e (omega arith)
-
   pub places-are : (u : ℕ) → map (place sh) (pixels sh d (subℕ u (low (sweepOf sh d)))) ≡ cells (sweepOf sh d) u (sweepOf sh d .majors)
-  unfolding cells cell
+  unfolding cells
   places-are u =
       let s = sweepOf sh d in
       ap (map (place sh)) (pixels-are u)
       ∙ map-those (place sh) (hit s u) (λ (i : ℕ). spot d i (u - shift s i)) (s .majors)
-      ∙ those-same (hit s u) (hit s u) _ _ (s .majors) (λ i l. refl) (λ i l. place-is i (u - shift s i))
+      ∙ those-same (hit s u) (hit s u) _ _ (s .majors) (λ i l. refl) (λ i l. sym (cell-place sh d u i))
 
   pub values-are : (u : ℕ) (f : List ℕ) → gathered f sh d (subℕ u (low (sweepOf sh d))) ≡ valuesAt f (cells (sweepOf sh d) u (sweepOf sh d .majors))
   values-are u f =

@@ -3,7 +3,11 @@
 --   Along       along, a line is a row
 --   Leaders     the greatest of some numbers, and the first that reaches it, one number more
 --   Calls       what a done answer says of a call's numbers
+--   Laws        one input allows one outcome of each call
+--   Examples    a frame with a strand, written out
 pub mod Bands
 pub mod Along
 pub mod Leaders
 pub mod Calls
+pub mod Laws
+pub mod Examples

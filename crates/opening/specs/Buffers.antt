@@ -1,5 +1,4 @@
 -- Rules 3, 5, 6 and 7, which all three calls check of a length and of the lent buffers.
---   stripBytes sh                 the scratch that a frame of shape sh needs
 --   bufferRules sh L size room spare bytes    a frame of size bytes, windows of L, a destination of room bytes, a scratch of spare bytes that needs `bytes`
 -- Laws: opening/proofs/Calls.
 use mathlib.Core.List.{List, [], _∷_}

@@ -8,11 +8,14 @@ ghost use Rattle.frame.specs.Direction.{dir};
 ghost use Rattle.frame.specs.Shape.{shape};
 ghost use Rattle.opening.specs.Host.{packed, HostOpens};
 
+// What a refusal's number counts in the one number that the host gets: 2^32.
+const UNIT: u64 = 4294967296;
+
 // The number times 2^32, plus the figure.
 fn pack(a: Answer) -> u64
     ensures { λ n. ⌜ n ≡ packed a ⌝ }
 {
-    a.number as u64 * 4294967296 + a.figure % 4294967296
+    a.number as u64 * UNIT + a.figure % UNIT
 }
 
 // Opens a frame as `open_frame` does.

@@ -185,7 +185,7 @@ module _ (f : List ℕ) (sh : Shape) (d : Direction) (n : ℕ) where
 
 pub frame-total : (f : List ℕ) (sh : Shape) (d : Direction) (K : ℕ) → Accepted sh d → total (frameSums f sh d K) ≡ light f sh
 frame-total f sh d K ok =
-    sums-total (frameSum f sh d)
-    (λ i. total-mono (λ (u : ℕ). sumFor (lineAt f sh d u) (suc i)) (λ (u : ℕ). sumFor (lineAt f sh d u) (suc (suc i))) (lineCount sh d) (λ u l. sum-falls (lineAt f sh d u) i)) K
+    let sum : ℕ → ℕ → ℕ = λ L u. sumFor (lineAt f sh d u) L in
+    sums-total (frameSum f sh d) (λ i. total-mono (sum (suc i)) (sum (suc (suc i))) (lineCount sh d) (λ u l. sum-falls (lineAt f sh d u) i)) K
     ∙ ap total (table-same _ _ (lineCount sh d) (λ u l. sum-one (lineAt f sh d u)))
     ∙ lines-light f sh d ok

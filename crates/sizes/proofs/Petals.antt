@@ -99,7 +99,8 @@ module _ (f scratch : List ℕ) (sh : Shape) {a : Answer} (e : a ≡ answer (ros
         scratch-length = refl;
       }
 
-  pub rose-done : a .number ≡ 0 → (rows : List (List ℕ)) (scratch′ : List ℕ) → rows ≡ roseOf f sh → length scratch′ ≡ length scratch → Roses f sh scratch scratch′ rows
+  pub rose-done : a .number ≡ 0 → (rows : List (List ℕ)) (scratch′ : List ℕ) → rows ≡ roseOf f sh → length scratch′ ≡ length scratch
+      → Roses f sh scratch scratch′ rows
   rose-done z rows scratch′ is kept =
       let done : says .number ≡ 0 = sym number ∙ z in
       record {

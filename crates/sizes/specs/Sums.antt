@@ -1,7 +1,6 @@
 -- Size sums of lines and frames (document 01, 'Stretches and size sums').
 --   sumsOf sum K             bins and rest, with K bins, where `sum L` is the sum for the length L
 --   lineSums f K             bins and rest of a line
---   pixelsFor d L            the pixels along a line of the direction d that a length L stands for
 --   lineAt f sh d u          the line number u of a frame, the lowest line being number 0
 --   frameSum f sh d L        the sum for a length of a frame in a direction
 --   frameSums f sh d K       bins and rest of a frame in a direction
@@ -13,7 +12,7 @@ use Rattle.lists.specs.Tables.{table}
 use Rattle.lists.specs.Extremes.{total}
 use Rattle.frame.specs.declared.direction.Direction.{Direction}
 use Rattle.frame.specs.declared.shape.Shape.{Shape}
-use Rattle.frame.specs.Lines.{lineRead, firstLine, lineCount}
+use Rattle.frame.specs.Lines.{lineRead, pixelsFor, firstLine, lineCount}
 use Rattle.bridge.specs.Sums.{sumFor}
 
 -- 'With K bins (1 to 4,096), the bin for a length is the sum for that length less the sum for the next; the rest is the sum for length K+1'
@@ -24,10 +23,6 @@ sumsOf sum K = table (λ (i : ℕ). sum (suc i) - sum (suc (suc i))) K ++ (sum (
 -- 'The sum for a length is the total of the opened pixels.'
 abbrev pub lineSums : List ℕ → ℕ → List ℕ
 lineSums f K = sumsOf (sumFor f) K
-
--- 'A length L is 1 to 4,096 and counts pixels along the line.'
-abbrev pub pixelsFor : Direction → ℕ → ℕ
-pixelsFor d L = L
 
 abbrev pub lineAt : List ℕ → Shape → Direction → ℕ → List ℕ
 lineAt f sh d u = lineRead f sh d (firstLine sh d +ℤ pos u)

@@ -1,44 +1,38 @@
 -- From the sweep's lines to document 01's pixels: what is proved of lines and major coordinates is crossed here, once a call.
---   cell-place                 the byte of line u at major coordinate i is a pixel's
 --   Spot, spot-of              each pixel of a frame is on a line of the sweep, at a major coordinate
 --   opened-spot                the opened pixel is the opening of that line there
 --   painted-lines              every line set is a frame painted
 -- Assumes nothing.
 use mathlib.Core.Path.{_≡_, refl, sym, ap, ap₂, _∙_, subst}
-use mathlib.Core.Bool.{Bool, true, false, cond, and-false}
-use mathlib.Core.Logic.{_⊎_, inl, inr, ⊎-elim}
-use mathlib.Core.List.{List, [], _∷_, map, List·Memᴰ}
-use Prim.Native.Nat.{ℕ, zero, suc, _+_, _-_, _*_, _≤_, _<_}
+use mathlib.Core.Bool.{Bool, true, false, and-false}
+use mathlib.Core.List.{List, [], _∷_, List·Memᴰ}
+use Prim.Native.Nat.{ℕ, zero, suc, _+_, _-_, _≤_, _<_}
 use native.Mathlib.Nat.{le-of-suc-le-suc}
 use native.Mathlib.Omega.{arith}
 use borrow.Author.Tests.{eq-eqb, ne-eqb}
-use lib.Dec.{eqb}
-use lib.ListN.{length, getD, List·getD-eq-default}
+use lib.ListN.{length, getD}
 use lib.IntN.{subℕ}
 use Rattle.lists.specs.Tables.{table}
-use Rattle.lists.proofs.Cases.{less-or-not}
 use Rattle.lists.proofs.Tables.{length-table, getD-table}
 use Rattle.lists.proofs.Picks.{those-in}
 use Rattle.line.specs.Windows.{opened}
-use Rattle.line.proofs.Padding.{opened-inner}
 use Rattle.frame.specs.declared.direction.Direction.{Direction}
 use Rattle.frame.specs.declared.shape.Shape.{Shape}
-use Rattle.frame.specs.declared.sweep.Sweep.{Sweep}
 use Rattle.frame.specs.Direction.{shallow}
-use Rattle.frame.specs.Shape.{shape}
 use Rattle.frame.specs.Lines.{Pixel, at, lineOf, pixels, place, lineRead}
 use Rattle.frame.specs.Sweep as sweep
 use Rattle.frame.specs.Sweep.{sweepOf, shift, low, lines, hit, cell, value, Accepted, Sane}
-use Rattle.frame.specs.Span.{touched, Spans}
+use Rattle.frame.specs.Span.{Spans}
 use Rattle.frame.proofs.Shapes.{accepted-some, sweep-sane}
-use Rattle.frame.proofs.Walks.{spot, hits, hit-at, value-on, value-off, pixels-are, values-are}
+use Rattle.frame.proofs.Walks.{spot, hit-at, value-on, cell-place, pixels-are, values-are, cells-in}
 use Rattle.frame.proofs.Pixels.{its-line}
+use Rattle.frame.proofs.ByLines.{cell-pixel}
 use Rattle.frame.proofs.Spans.{shift-le, spans, span-hit, span-holds, values-span, pixels-span}
 use Rattle.strips.specs.Pixels as painted
 use Rattle.strips.specs.Pixels.{samePixel, indexIn, openedPixel, Painted}
 use Rattle.strips.specs.Strips as strips
 use Rattle.strips.specs.Strips.{whole, openedOn, Placed, below}
-use Rattle.strips.proofs.Strips.{untouched}
+use Rattle.strips.proofs.Strips.{whole-inner}
 
 -- ---- where a pixel stands among others
 
@@ -59,20 +53,7 @@ spot-other d i j k l apart = go (shallow d) refl
     go true e = rw e (rw (ne-eqb i k apart))
     go false e = rw e (rw (ne-eqb i k apart, and-false))
 
-untouched-one : (s : Sweep) (u i : ℕ) → touched s u 1 i ≡ false → hit s u i ≡ false
-untouched-one s u i none =
-    let e : u + 0 ≡ u = omega arith in
-    subst (λ (v : ℕ). hit s v i ≡ false) e (untouched s u 1 i 0 none (omega arith))
-
 -- ---- a pixel and its line
-
-pub cell-place : (sh : Shape) (d : Direction) (u i : ℕ) → cell (sweepOf sh d) u i ≡ place sh (spot d i (u - shift (sweepOf sh d) i))
-unfolding sweep.sweepOf sweep.cell
-cell-place sh d u i = go (shallow d) refl
-  where
-    go : (t : Bool) → shallow d ≡ t → cell (sweepOf sh d) u i ≡ place sh (spot d i (u - shift (sweepOf sh d) i))
-    go true e = rw e (omega arith)
-    go false e = rw e (omega arith)
 
 -- the pixel (x, y) is line u's at major coordinate i
 pub record Spot (sh : Shape) (d : Direction) (x y : ℕ) : Type 0 where
@@ -112,20 +93,6 @@ module _ (sh : Shape) (d : Direction) (ok : Accepted sh d) where
       go true e = spot-at sh d x y x y sane (rw e h) (rw e l) (rw e)
       go false e = spot-at sh d y x x y sane (rw e l) (rw e h) (rw e)
 
-  -- a line's pixel is one of the frame's
-  pub pixel-of : (u i : ℕ) → i < sweepOf sh d .majors → hit (sweepOf sh d) u i ≡ true
-      → ((x y : ℕ) → x < sh .width → y < sh .height → cell (sweepOf sh d) u i ≡ place sh (at x y) → ⊥) → ⊥
-  unfolding sweep.sweepOf
-  pixel-of u i h z none = go (shallow d) refl
-    where
-      go : (t : Bool) → shallow d ≡ t → ⊥
-      go true e =
-          let a = rw e at (hits (sweepOf sh d) u i z) in
-          none i (u - shift (sweepOf sh d) i) (rw e at h) (rw e (omega (arith, a))) (cell-place sh d u i ∙ rw e)
-      go false e =
-          let a = rw e at (hits (sweepOf sh d) u i z) in
-          none (u - shift (sweepOf sh d) i) i (rw e (omega (arith, a))) (rw e at h) (cell-place sh d u i ∙ rw e)
-
   -- ---- the opened pixel
 
   -- line u, which has its pixels at the count major coordinates from `from` on
@@ -151,30 +118,19 @@ module _ (sh : Shape) (d : Direction) (ok : Accepted sh d) where
     unfolding strips.openedOn
     whole-opened =
         let s = sweepOf sh d in
-        let line = table (λ (k : ℕ). getD f (cell s u (from + k)) 0) count in
+        let line : ℕ → ℕ = λ k. getD f (cell s u (from + k)) 0 in
         let here : from + (i - from) ≡ i = omega arith in
-        let long : length (whole s f u) ≡ s .majors = length-table (value s f u) (s .majors) in
-        let wide : length line ≡ count = length-table (λ (k : ℕ). getD f (cell s u (from + k)) 0) count in
-        let fits : from + count ≤ s .majors = w .fits in
-        ap (λ (k : ℕ). getD (opened (whole s f u) L) k 0) (sym here)
-        ∙ opened-inner (whole s f u) line from (omega arith)
-        (λ k l.
-        line-is (from + k) (omega arith)
-        ∙ value-on s f u (from + k) (span-hit w (from + k) (omega arith) (omega arith))
-        ∙ sym (getD-table 0 (λ (k : ℕ). getD f (cell s u (from + k)) 0) count k (omega arith)))
-        (λ k l. line-is k (omega arith) ∙ value-off s f u k (alone k (w .before k l)))
-        (λ k l.
-        ⊎-elim
-        (λ q. line-is k q ∙ value-off s f u k (alone k (w .behind k (omega arith) q)))
-        (λ q. List·getD-eq-default (whole s f u) 0 (omega arith))
-        (less-or-not k (s .majors)))
-        L (i - from) some (omega arith)
+        let first : u + 0 ≡ u = omega arith in
+        ap₂ (λ (v k : ℕ). getD (opened (whole s f v) L) k 0) (sym first) (sym here)
+        ∙ whole-inner w f L some 0 (omega arith) (table line count) (length-table line count) same (i - from) (omega arith)
       where
-        line-is : (k : ℕ) → k < sweepOf sh d .majors → getD (whole (sweepOf sh d) f u) k 0 ≡ value (sweepOf sh d) f u k
-        line-is k h = getD-table 0 (value (sweepOf sh d) f u) (sweepOf sh d .majors) k h
-
-        alone : (k : ℕ) → touched (sweepOf sh d) u 1 k ≡ false → hit (sweepOf sh d) u k ≡ false
-        alone k none = untouched-one (sweepOf sh d) u k none
+        same : (k : ℕ) → k < count → value (sweepOf sh d) f (u + 0) (from + k) ≡ getD (table (λ (k : ℕ). getD f (cell (sweepOf sh d) u (from + k)) 0) count) k 0
+        same k l =
+            let s = sweepOf sh d in
+            let first : u + 0 ≡ u = omega arith in
+            ap (λ (v : ℕ). value s f v (from + k)) first
+            ∙ value-on s f u (from + k) (span-hit w (from + k) (omega arith) (omega arith))
+            ∙ sym (getD-table 0 (λ (k : ℕ). getD f (cell s u (from + k)) 0) count k l)
 
   pub opened-spot : (f : List ℕ) (L : ℕ) → 1 ≤ L → {x y : ℕ} (p : Spot sh d x y) → openedPixel f sh d L x y ≡ openedOn (sweepOf sh d) f L (p .u) (p .i)
   unfolding painted.openedPixel
@@ -198,6 +154,7 @@ module _ (sh : Shape) (d : Direction) (ok : Accepted sh d) where
   pub painted-lines : {F : ℕ → ℕ → ℕ → ℕ} {g g′ : List ℕ} (n : ℕ) (G : ℕ → ℕ → ℕ) → Placed (sweepOf sh d) (below n) F g g′ → lines (sweepOf sh d) ≤ n
       → ((x y : ℕ) → x < sh .width → y < sh .height → (p : Spot sh d x y) → F (p .u) (p .i) (getD g (place sh (at x y)) 0) ≡ G x y) → Painted sh G g g′
   painted-lines {F} {g} {g′} n G q all vals =
+      let s = sweepOf sh d in
       record {
         same = q .same;
         pixels = λ x y h l.
@@ -207,5 +164,5 @@ module _ (sh : Shape) (d : Direction) (ok : Accepted sh d) where
             ∙ q .on (p .u) (p .i) (omega (arith, p .line)) (p .below) (p .on)
             ∙ ap (λ (k : ℕ). F (p .u) (p .i) (getD g k 0)) e
             ∙ vals x y h l p;
-        gaps = λ k none. q .off k (λ u i b h z e. pixel-of u i h z (λ x y a c w. none x y a c (e ∙ w)));
+        gaps = λ k none. q .off k (λ u i b h z e. cell-pixel sh d u (cell s u i) (cells-in s u (s .majors) i h z) (λ x y a c w. none x y a c (e ∙ w)));
       }

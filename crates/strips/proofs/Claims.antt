@@ -30,15 +30,15 @@ use Rattle.frame.specs.Sweep as sweep
 use Rattle.frame.specs.Sweep.{sweepOf, sweepFor, shift, lines, hit, cell, Accepted, Apart}
 use Rattle.frame.specs.Span.{Spans}
 use Rattle.frame.proofs.Shapes.{framed}
-use Rattle.frame.proofs.Walks.{spot}
-use Rattle.strips.specs.Pixels.{openedPixel, Painted}
+use Rattle.frame.proofs.Walks.{spot, cell-place}
+use Rattle.strips.specs.Pixels.{Painted}
 use Rattle.strips.specs.Engine.{stripBytes}
 use Rattle.strips.specs.Engine.{claims, packed, FrameClaimed}
 use Rattle.strips.specs.Strips.{Eight, valueAt, RowPut, openedOn, StripOpened, Placed, block, strip, below, bufferAt, restrided, RowClaimed, StripClaimed, LinesClaimed}
 use Rattle.strips.proofs.Eights.{next-step}
 use Rattle.strips.proofs.Places.{placed-as, placed-outside, placed-row}
 use Rattle.strips.proofs.Strips.{value-cell, buffer-eight, block-none, block-more, placed-strip, lines-none, lines-more}
-use Rattle.strips.proofs.Bridge.{cell-place, Spot, opened-spot, painted-lines}
+use Rattle.strips.proofs.Bridge.{Spot, opened-spot, painted-lines}
 use Rattle.strips.proofs.Paintings.{painted-stays}
 use Rattle.strips.proofs.Handed.{sweep-is}
 

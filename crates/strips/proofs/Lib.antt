@@ -5,7 +5,7 @@
 --   Places      pixels set: one region after another
 --   Strips      a strip laid out, opened and put back
 --   Bridge      from the sweep's lines to document 01's pixels
---   Paintings   painted frames: one over another
+--   Paintings   painted frames: one over another, and that one painting has one outcome
 --   Handed      what `sweep_of` and `span_of` hand back for an accepted frame and direction
 --   Claims      the direction frame's claims, and the best values beside them
 --   Fits        what the calls' tests say

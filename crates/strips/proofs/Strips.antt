@@ -3,11 +3,12 @@
 --   laid-none, laid-more, laid-end       a strip laid out, one major coordinate after the other
 --   value-row, value-cell, buffer-eight    what the lines have at a coordinate, and what the strip's buffer has for them
 --   block-none, block-more, block-end    a strip put back, one major coordinate after the other
---   untouched, strip-opened              the opened buffer has the lines' openings
+--   untouched, whole-inner               only the coordinates where a line has pixels count in its opening
+--   strip-opened                         the opened buffer has the lines' openings
 --   placed-strip, lines-none, lines-more    a strip put back is eight lines set; one strip after the other
 -- Assumes nothing.
 use mathlib.Core.Path.{_≡_, refl, sym, ap, _∙_, subst}
-use mathlib.Core.Bool.{Bool, true, false, cond, true≢false}
+use mathlib.Core.Bool.{Bool, true, false, true≢false}
 use mathlib.Core.Logic.{_⊎_, inl, inr, ⊎-elim}
 use mathlib.Core.List.{List}
 use Prim.Native.Nat.{ℕ, _+_, _-_, _*_, _≤_, _<_}
@@ -30,7 +31,7 @@ use Rattle.frame.proofs.Spans.{span-holds}
 use Rattle.strips.specs.Strips as strips
 use Rattle.strips.specs.Strips.{whole, openedOn, Stands, Eight, Stored, valueAt, Row, Laid, StripOpened, Placed, block, strip, below, bufferAt}
 use Rattle.strips.proofs.Eights.{steps-le}
-use Rattle.strips.proofs.Places.{Region, placed-none, placed-as, placed-join}
+use Rattle.strips.proofs.Places.{placed-none, placed-as, placed-join}
 
 -- ---- one major coordinate more
 
@@ -113,6 +114,25 @@ untouched s u c i j none l = go (hit s (u + j) i) refl
         absurd (true≢false (sym on ∙ none))
     go false e = e
 
+pub whole-inner : {s : Sweep} {u c from count : ℕ} → Spans s u c from count → (f : List ℕ) (L : ℕ) → 1 ≤ L → (j : ℕ) → j < c → (line : List ℕ) → length line ≡ count
+    → ((k : ℕ) → k < count → value s f (u + j) (from + k) ≡ getD line k 0)
+    → (k : ℕ) → k < count → getD (opened (whole s f (u + j)) L) (from + k) 0 ≡ getD (opened line L) k 0
+whole-inner {s} {u} {c} {from} {count} spans f L some j l line wide same k h =
+    let long : length (whole s f (u + j)) ≡ s .majors = length-table (value s f (u + j)) (s .majors) in
+    let fits : from + count ≤ s .majors = spans .fits in
+    opened-inner (whole s f (u + j)) line from (omega arith)
+    (λ i m. line-is (from + i) (omega arith) ∙ same i (omega arith))
+    (λ i m. line-is i (omega arith) ∙ value-off s f (u + j) i (untouched s u c i j (spans .before i m) l))
+    (λ i m.
+    ⊎-elim
+    (λ q. line-is i q ∙ value-off s f (u + j) i (untouched s u c i j (spans .behind i (omega arith) q) l))
+    (λ q. List·getD-eq-default (whole s f (u + j)) 0 (omega arith))
+    (less-or-not i (s .majors)))
+    L k some (omega arith)
+  where
+    line-is : (i : ℕ) → i < s .majors → getD (whole s f (u + j)) i 0 ≡ value s f (u + j) i
+    line-is i h = getD-table 0 (value s f (u + j)) (s .majors) i h
+
 module _ (s : Sweep) (f : List ℕ) (L u from count : ℕ) (spans : Spans s u 8 from count) where
   pub strip-opened : (b b′ : List ℕ) → 1 ≤ L → Laid s f u from count b → OpensLanes 8 count L b b′ → StripOpened s f L u from count b′
   unfolding strips.openedOn
@@ -121,26 +141,11 @@ module _ (s : Sweep) (f : List ℕ) (L u from count : ℕ) (spans : Spans s u 8 
         is = λ j k l h.
             sym (lane-at 8 count j b′ k h)
             ∙ ap (λ (x : List ℕ). getD x k 0) (opens .at j l)
-            ∙ sym (inner j l k h);
+            ∙ sym (whole-inner spans f L some j l (lane 8 count j b) (lane-length 8 count j b) (same j l) k h);
       }
     where
-      line-is : (j i : ℕ) → i < s .majors → getD (whole s f (u + j)) i 0 ≡ value s f (u + j) i
-      line-is j i h = getD-table 0 (value s f (u + j)) (s .majors) i h
-
-      inner : (j : ℕ) → j < 8 → (k : ℕ) → k < count → getD (opened (whole s f (u + j)) L) (from + k) 0 ≡ getD (opened (lane 8 count j b) L) k 0
-      inner j l k h =
-          let long : length (whole s f (u + j)) ≡ s .majors = length-table (value s f (u + j)) (s .majors) in
-          let wide : length (lane 8 count j b) ≡ count = lane-length 8 count j b in
-          let fits : from + count ≤ s .majors = spans .fits in
-          opened-inner (whole s f (u + j)) (lane 8 count j b) from (omega arith)
-          (λ i m. line-is j (from + i) (omega arith) ∙ sym (lane-at 8 count j b i (omega arith) ∙ laid .is j i l (omega arith)))
-          (λ i m. line-is j i (omega arith) ∙ value-off s f (u + j) i (untouched s u 8 i j (spans .before i m) l))
-          (λ i m.
-          ⊎-elim
-          (λ q. line-is j i q ∙ value-off s f (u + j) i (untouched s u 8 i j (spans .behind i (omega arith) q) l))
-          (λ q. List·getD-eq-default (whole s f (u + j)) 0 (omega arith))
-          (less-or-not i (s .majors)))
-          L k some (omega arith)
+      same : (j : ℕ) → j < 8 → (k : ℕ) → k < count → value s f (u + j) (from + k) ≡ getD (lane 8 count j b) k 0
+      same j l k h = sym (lane-at 8 count j b k h ∙ laid .is j k l h)
 
   -- C combines what stands at a pixel and the opened value; the pixels are those of the same lines, in the same frame or in another
   pub placed-strip : {b : Sweep} {t g g′ : List ℕ} (C : ℕ → ℕ → ℕ → ℕ → ℕ) → ((v i : ℕ) → i < b .majors → hit b v i ≡ true → (i < s .majors) × (hit s v i ≡ true))

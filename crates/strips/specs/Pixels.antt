@@ -1,5 +1,4 @@
 -- The opening of a frame in a direction, pixel by pixel (document 01, 'Windows and openings'): everything computes on a frame that is written out.
---   pixelsFor d L             the pixels that a length L stands for in direction d
 --   samePixel c b             c and b are the same pixel
 --   indexIn c cs              where the pixel c stands in a list of pixels, counted from 0
 --   openedPixel f sh d L x y  pixel (x, y) of the frame f opened in direction d
@@ -14,11 +13,7 @@ use lib.ListN.{length, getD}
 use Rattle.line.specs.Windows.{opened}
 use Rattle.frame.specs.declared.direction.Direction.{Direction}
 use Rattle.frame.specs.declared.shape.Shape.{Shape}
-use Rattle.frame.specs.Lines.{Pixel, at, lineOf, pixels, place, lineRead}
-
--- 'A length L .. counts pixels along the line.'
-abbrev pub pixelsFor : Direction → ℕ → ℕ
-pixelsFor d L = L
+use Rattle.frame.specs.Lines.{Pixel, at, lineOf, pixels, place, lineRead, pixelsFor}
 
 abbrev pub samePixel : Pixel → Pixel → Bool
 samePixel c b = eqb (c .x) (b .x) && eqb (c .y) (b .y)

@@ -3,7 +3,7 @@
 use crate::eight::brighter_of;
 use crate::eight::claimed_of;
 use crate::eight::eight;
-use crate::row::put_row;
+use crate::put::put_row;
 use crate::row::row_of;
 use crate::strip::open_strip;
 use crate::walk::advance;
@@ -19,8 +19,7 @@ ghost use Prim.Native.Nat.{_+_, _-_, _*_, _≤_, _<_};
 ghost use lib.ListN;
 ghost use Rattle.frame.specs.Sweep.{Sane, Reach, Apart};
 ghost use Rattle.frame.specs.Span.{Spans};
-ghost use Rattle.strips.specs.Engine.{stripBytes};
-ghost use Rattle.strips.specs.Engine.{FrameClaimed};
+ghost use Rattle.strips.specs.Engine.{stripBytes, FrameClaimed};
 ghost use Rattle.strips.specs.Strips.{restrided, RowClaimed, StripClaimed, LinesClaimed, Ready};
 
 // One major coordinate: where the eight values x are above the best ones, they take their place, and dst gets the number. The best ones stand `minor`

@@ -2,6 +2,7 @@
 mod claim;
 mod eight;
 mod engine;
+mod put;
 mod row;
 mod strip;
 mod stripwise;

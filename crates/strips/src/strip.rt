@@ -3,7 +3,7 @@
 use crate::eight::brighter_of;
 use crate::eight::eight;
 use crate::eight::put_eight;
-use crate::row::put_row;
+use crate::put::put_row;
 use crate::row::row_of;
 use crate::walk::advance;
 use crate::walk::shift_at;

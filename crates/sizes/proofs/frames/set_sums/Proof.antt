@@ -24,31 +24,34 @@ clear-requires c κs = search needs
 
 loop-holds : tie.Need-loop-holds Inv-loop μ-loop
 loop-holds c =
-    let src = c .before .before .before .before .before .before .before .before .args .src .now in
-    let sh = c .before .before .before .before .before .before .before .before .args .shape in
-    let d = c .before .before .before .before .before .before .before .before .args .d in
-    let ok = c .before .before .before .before .before .before .before .before .pre .0 .ok in
-    let n = length (c .before .before .before .before .before .before .before .before .args .sums .now) in
+    let entry = c .before .before .before .before .before .before .before .before in
+    let src = entry .args .src .now in
+    let sh = entry .args .shape in
+    let d = entry .args .d in
+    let ok = entry .pre .0 .ok in
+    let n = length (entry .args .sums .now) in
     let cleared = c .before .before .clear .ensures in
     let entries = ap length cleared ∙ zeros-length n in
     (search needs, refl, rw entries (summing-start src sh d n _ cleared))
 
 add-line-of-requires : tie.Need-add-line-of-requires Inv-loop μ-loop
 add-line-of-requires c κs =
-    let src = c .before .before .before .before .before .before .before .before .before .before .before .before .args .src .now in
-    let sh = c .before .before .before .before .before .before .before .before .before .before .before .before .args .shape in
-    let d = c .before .before .before .before .before .before .before .before .before .before .before .before .args .d in
-    let ok = c .before .before .before .before .before .before .before .before .before .before .before .before .pre .0 .ok in
-    let n = length (c .before .before .before .before .before .before .before .before .before .before .before .before .args .sums .now) in
+    let entry = c .before .before .before .before .before .before .before .before .before .before .before .before in
+    let src = entry .args .src .now in
+    let sh = entry .args .shape in
+    let d = entry .args .d in
+    let ok = entry .pre .0 .ok in
+    let n = length (entry .args .sums .now) in
     let cleared = c .before .before .before .before .before .before .clear .ensures in
     let entries = ap length cleared ∙ zeros-length n in
     let lines = count-is-lines sh d ok (c .before .before .before .before .before .before .before .before .lines-of .ensures) in
     let at = c .before .before .before .loop in
-    let dim : (i : ℕ) → getD src i 0 ≤ 255 = λ i. omega (arith, c .before .before .before .before .before .before .before .before .before .before .before .shared-slice-known .given i) in (
-      c .before .before .before .before .before .before .before .before .before .before .before .before .pre .0,
+    let known = c .before .before .before .before .before .before .before .before .before .before .before .shared-slice-known .given in
+    let dim : (i : ℕ) → getD src i 0 ≤ 255 = λ i. omega (arith, known i) in (
+      entry .pre .0,
       omega (arith, lines),
-      omega (arith, at .inv .1, c .before .before .before .before .before .before .before .before .before .before .before .before .pre .1),
-      omega (arith, at .inv .2 .same, entries, c .before .before .before .before .before .before .before .before .before .before .before .before .pre .2),
+      omega (arith, at .inv .1, entry .pre .1),
+      omega (arith, at .inv .2 .same, entries, entry .pre .2),
       summing-modest src sh d _ ok dim (at .u) (at .sums) (omega (arith, lines)) (at .inv .2),
     )
 
@@ -72,17 +75,18 @@ same-length-2 c = search needs
 
 returns : tie.Need-returns Inv-loop μ-loop
 returns c =
-    let src = c .before .before .before .before .before .before .before .before .before .before .args .src .now in
-    let sh = c .before .before .before .before .before .before .before .before .before .before .args .shape in
-    let d = c .before .before .before .before .before .before .before .before .before .before .args .d in
-    let ok = c .before .before .before .before .before .before .before .before .before .before .pre .0 .ok in
-    let n = length (c .before .before .before .before .before .before .before .before .before .before .args .sums .now) in
+    let entry = c .before .before .before .before .before .before .before .before .before .before in
+    let src = entry .args .src .now in
+    let sh = entry .args .shape in
+    let d = entry .args .d in
+    let ok = entry .pre .0 .ok in
+    let n = length (entry .args .sums .now) in
     let cleared = c .before .before .before .before .clear .ensures in
     let entries = ap length cleared ∙ zeros-length n in
     let lines = count-is-lines sh d ok (c .before .before .before .before .before .before .lines-of .ensures) in
     let at = c .before .loop in
     let past : at .u ≡ lineCount sh d = omega (arith, lines) in
-    record { set = summing-end src sh d n (at .sums) (c .before .before .before .before .before .before .before .before .before .before .pre .2) (rw (entries, past) at (at .inv .2)); kept = at .inv .1 }
+    record { set = summing-end src sh d n (at .sums) (entry .pre .2) (rw (entries, past) at (at .inv .2)); kept = at .inv .1 }
 
 pub set-sums-spec : {M : Type 1} → statement M
 set-sums-spec =

@@ -24,12 +24,14 @@ returns c =
 
 set-sums-requires : tie.Need-set-sums-requires
 set-sums-requires c κs =
-    let sh = c .before .before .before .before .before .before .before .before .args .shape in
-    let d = c .before .before .before .before .before .before .before .before .args .d in
-    let src = c .before .before .before .before .before .before .before .before .args .src .now in
-    let sums = c .before .before .before .before .before .before .before .before .args .sums .now in
-    let scratch = c .before .before .before .before .before .before .before .before .args .scratch .now in
-    let fits = frame-fits sh d (length sums) (length src) (length scratch) (c .before .before .before .before .refusal .ensures) (c .before .before .if1 .left) in
+    let entry = c .before .before .before .before .before .before .before .before in
+    let sh = entry .args .shape in
+    let d = entry .args .d in
+    let src = entry .args .src .now in
+    let sums = entry .args .sums .now in
+    let scratch = entry .args .scratch .now in
+    let answers = c .before .before .before .before .refusal .ensures in
+    let fits = frame-fits sh d (length sums) (length src) (length scratch) answers (c .before .before .if1 .left) in
     (fits .0, fits .1, omega (arith, fits .2))
 
 same-length : tie.Need-same-length

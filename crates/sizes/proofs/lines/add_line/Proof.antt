@@ -38,9 +38,10 @@ same-length-2 c = search needs
 
 returns : tie.Need-returns Inv-loop μ-loop
 returns c =
-    let line = c .before .before .before .before .before .before .before .before .before .before .before .args .line .now in
-    let sums = c .before .before .before .before .before .before .before .before .before .before .before .args .sums .now in
-    let some = c .before .before .before .before .before .before .before .before .before .before .before .pre .2 in
+    let entry = c .before .before .before .before .before .before .before .before .before .before .before in
+    let line = entry .args .line .now in
+    let sums = entry .args .sums .now in
+    let some = entry .pre .2 in
     let at = c .before .before .before .before .before .before .loop in
     let next = c .before .before .before .before .next in
     let none = coming-none line (at .scratch) (at .at) _ (next .result) (next .ensures) (not-true _ (c .if1 .taken)) in
@@ -48,26 +49,30 @@ returns c =
 
 add-light-requires : tie.Need-add-light-requires Inv-loop μ-loop
 add-light-requires c κs =
-    let line = c .before .before .before .before .before .before .before .before .before .before .before .before .args .line .now in
-    let sums = c .before .before .before .before .before .before .before .before .before .before .before .before .args .sums .now in
-    let pre = c .before .before .before .before .before .before .before .before .before .before .before .before .pre in
+    let entry = c .before .before .before .before .before .before .before .before .before .before .before .before in
+    let line = entry .args .line .now in
+    let sums = entry .args .sums .now in
+    let pre = entry .pre in
     let pixel = c .before .before .before .before .before .before .before .before .before .before .before .shared-slice-known .given in
     let at = c .before .before .before .before .before .before .before .loop in
     let next = c .before .before .before .before .before .next in
     let comes = next .ensures .comes (not-false _ (c .before .if1 .left)) in
     let adding : Adding line sums (next .result .stretch ∷ _) (at .sums) = rw comes at (at .inv .1) in
-    (adding-sound line sums _ _ (at .sums) adding, omega (arith, at .inv .1 .same, pre .2), adding-modest line sums _ (at .sums) (pre .0) (λ i. omega (arith, pixel i)) (pre .3) (at .inv .1))
+    let modest = adding-modest line sums _ (at .sums) (pre .0) (λ i. omega (arith, pixel i)) (pre .3) (at .inv .1) in
+    (adding-sound line sums _ _ (at .sums) adding, omega (arith, at .inv .1 .same, pre .2), modest)
 
 loop-less : tie.Need-loop-less Inv-loop μ-loop
 loop-less c =
-    let comes = c .before .before .before .before .before .before .before .before .before .next .ensures .comes (not-false _ (c .before .before .before .before .before .if1 .left)) in
+    let next = c .before .before .before .before .before .before .before .before .before .next in
+    let comes = next .ensures .comes (not-false _ (c .before .before .before .before .before .if1 .left)) in
     omega (arith, ap length comes)
 
 loop-again : tie.Need-loop-again Inv-loop μ-loop
 loop-again c =
-    let line = c .before .before .before .before .before .before .before .before .before .before .before .before .before .before .before .before .args .line .now in
-    let sums = c .before .before .before .before .before .before .before .before .before .before .before .before .before .before .before .before .args .sums .now in
-    let some = c .before .before .before .before .before .before .before .before .before .before .before .before .before .before .before .before .pre .2 in
+    let entry = c .before .before .before .before .before .before .before .before .before .before .before .before .before .before .before .before in
+    let line = entry .args .line .now in
+    let sums = entry .args .sums .now in
+    let some = entry .pre .2 in
     let at = c .before .before .before .before .before .before .before .before .before .before .before .loop in
     let next = c .before .before .before .before .before .before .before .before .before .next in
     let comes = next .ensures .comes (not-false _ (c .before .before .before .before .before .if1 .left)) in

@@ -46,9 +46,10 @@ same-length-2 c = search needs
 
 returns-2 : tie.Need-returns-2
 returns-2 c =
-    let line = c .before .before .before .before .before .before .before .before .before .before .before .before .before .before .before .before .before .args .line .now in
-    let sums = c .before .before .before .before .before .before .before .before .before .before .before .before .before .before .before .before .before .args .sums .now in
-    let scratch = c .before .before .before .before .before .before .before .before .before .before .before .before .before .before .before .before .before .args .scratch .now in
+    let entry = c .before .before .before .before .before .before .before .before .before .before .before .before .before .before .before .before .before in
+    let line = entry .args .line .now in
+    let sums = entry .args .sums .now in
+    let scratch = entry .args .scratch .now in
     let a = c .before .before .before .before .before .before .before .before .before .before .before .before .before .refusal .result in
     let answers = c .before .before .before .before .before .before .before .before .before .before .before .before .before .refusal .ensures in
     let done = c .before .before .before .before .before .before .before .before .before .before .before .if1 .left in

@@ -18,13 +18,15 @@ same-length-2 c = search needs
 
 returns : tie.Need-returns
 returns c =
-    let src = c .before .before .before .before .before .before .before .before .before .before .before .args .src .now in
-    let shape = c .before .before .before .before .before .before .before .before .before .before .before .args .shape in
-    let d = c .before .before .before .before .before .before .before .before .before .before .before .args .d in
-    let row = c .before .before .before .before .before .before .before .before .before .before .before .args .row .now in
-    let scratch = c .before .before .before .before .before .before .before .before .before .before .before .args .scratch .now in
-    let pre = c .before .before .before .before .before .before .before .before .before .before .before .pre in
-    let sums = rw (c .before .before .before .before .before .before .before .numbered .ensures) at (c .before .before .before .before .sums-of-frame .ensures) in
+    let entry = c .before .before .before .before .before .before .before .before .before .before .before in
+    let src = entry .args .src .now in
+    let shape = entry .args .shape in
+    let d = entry .args .d in
+    let row = entry .args .row .now in
+    let scratch = entry .args .scratch .now in
+    let pre = entry .pre in
+    let numbered = c .before .before .before .before .before .before .before .numbered .ensures in
+    let sums = rw numbered at (c .before .before .before .before .sums-of-frame .ensures) in
     row-set src shape d row _ scratch _ _ (pre .0) (pre .1) (pre .2) sums
 
 pub fill-row-spec : {M : Type 1} → statement M

@@ -38,21 +38,27 @@ refused-requires-3 c κs = search needs
 
 returns-3 : tie.Need-returns-3
 returns-3 c =
-    let frame = sym (c .before .before .before .before .before .before .is-frame .ensures) ∙ not-false _ (c .before .before .before .before .before .if1 .left) in
-    let bytes = c .before .before .before .before .bytes .ensures ∙ needed-by (c .before .before .before .before .before .before .before .args .shape) frame in
-    let source = rw bytes at (c .before .before .before .if2 .left) in
-    let scratch = rw (c .before .before .scratch-for .ensures) at (c .before .if3 .taken) in
-    c .refused3 .ensures ∙ simp (c .before .before .scratch-for .ensures, frame, le-ltb _ _ source, lt-ltb _ _ scratch)
+    let scratched = c .before .before in
+    let sized = scratched .before .before in
+    let framed = sized .before .before in
+    let frame = sym (framed .is-frame .ensures) ∙ not-false _ (sized .before .if1 .left) in
+    let bytes = sized .bytes .ensures ∙ needed-by (framed .before .args .shape) frame in
+    let source = rw bytes at (scratched .before .if2 .left) in
+    let scratch = rw (scratched .scratch-for .ensures) at (c .before .if3 .taken) in
+    c .refused3 .ensures ∙ simp (scratched .scratch-for .ensures, frame, le-ltb _ _ source, lt-ltb _ _ scratch)
 
 done-requires : tie.Need-done-requires
 done-requires c κs = search needs
 
 returns-4 : tie.Need-returns-4
 returns-4 c =
-    let frame = sym (c .before .before .before .before .before .before .is-frame .ensures) ∙ not-false _ (c .before .before .before .before .before .if1 .left) in
-    let bytes = c .before .before .before .before .bytes .ensures ∙ needed-by (c .before .before .before .before .before .before .before .args .shape) frame in
-    let source = rw bytes at (c .before .before .before .if2 .left) in
-    let scratch = rw (c .before .before .scratch-for .ensures) at (c .before .if3 .left) in
+    let scratched = c .before .before in
+    let sized = scratched .before .before in
+    let framed = sized .before .before in
+    let frame = sym (framed .is-frame .ensures) ∙ not-false _ (sized .before .if1 .left) in
+    let bytes = sized .bytes .ensures ∙ needed-by (framed .before .args .shape) frame in
+    let source = rw bytes at (scratched .before .if2 .left) in
+    let scratch = rw (scratched .scratch-for .ensures) at (c .before .if3 .left) in
     c .done .ensures ∙ simp (frame, le-ltb _ _ source, le-ltb _ _ scratch)
 
 pub refusal-spec : {M : Type 1} → statement M

@@ -63,7 +63,8 @@ refused-requires-3 c κs = search needs
 returns-3 : tie.Need-returns-3
 returns-3 c =
     let s = now (c .before .before .before .before .before .before .before .before .args .sums) in
-    let entries = sym (c .before .before .before .before .before .before .is-outside .ensures) ∙ c .before .before .before .before .before .if1 .left in
+    let counted = c .before .before .before .before .before .before in
+    let entries = sym (counted .is-outside .ensures) ∙ c .before .before .before .before .before .if1 .left in
     let fits = outside-not 2 (longest + 1) (length s) entries in
     c .refused3 .ensures ∙ sym (summary-large s entries (λ z. omega arith) (omega arith))
 
@@ -73,7 +74,8 @@ refused-requires-4 c κs = search needs
 returns-4 : tie.Need-returns-4
 returns-4 c =
     let s = now (c .before .before .before .before .before .before .before .before .before .args .sums) in
-    let entries = sym (c .before .before .before .before .before .before .before .is-outside .ensures) ∙ c .before .before .before .before .before .before .if1 .left in
+    let counted = c .before .before .before .before .before .before .before in
+    let entries = sym (counted .is-outside .ensures) ∙ c .before .before .before .before .before .before .if1 .left in
     let fits = outside-not 2 (longest + 1) (length s) entries in
     c .refused4 .ensures ∙ sym (summary-large s entries (λ z. omega arith) (omega arith))
 
@@ -86,7 +88,8 @@ refused-requires-5 c κs = search needs
 returns-5 : tie.Need-returns-5
 returns-5 c =
     let s = now (c .before .before .before .before .before .before .before .before .before .before .before .args .sums) in
-    let entries = sym (c .before .before .before .before .before .before .before .before .before .is-outside .ensures) ∙ c .before .before .before .before .before .before .before .before .if1 .left in
+    let counted = c .before .before .before .before .before .before .before .before .before in
+    let entries = sym (counted .is-outside .ensures) ∙ c .before .before .before .before .before .before .before .before .if1 .left in
     let fits = outside-not 2 (longest + 1) (length s) entries in
     c .refused5 .ensures ∙ sym (summary-heavy s entries (λ z. omega arith) (omega arith))
 
@@ -105,7 +108,8 @@ int-to-float-t15 c = exact _ (omega arith)
 returns-6 : tie.Need-returns-6
 returns-6 c =
     let s = now (c .before .before .before .before .before .before .before .before .before .before .before .before .before .args .sums) in
-    let entries = sym (c .before .before .before .before .before .before .before .before .before .before .before .is-outside .ensures) ∙ c .before .before .before .before .before .before .before .before .before .before .if1 .left in
+    let counted = c .before .before .before .before .before .before .before .before .before .before .before in
+    let entries = sym (counted .is-outside .ensures) ∙ c .before .before .before .before .before .before .before .before .before .before .if1 .left in
     let light : c .before .before .before .before .before .before .before .before .before .total-of .result ≡ total (binsOf s) = omega arith in
     let weight : c .before .before .before .before .weighted-of .result ≡ weighted 1 (binsOf s) = omega arith in
     rw (light, weight) (sym (summary-done s entries (λ z. omega arith) (omega arith) (omega arith)))

@@ -40,9 +40,10 @@ add-result c = search needs
 
 returns : tie.Need-returns Inv-loop μ-loop
 returns c =
-    let s = now (c .before .before .before .before .args .sums) in
+    let a = c .before .before .before .before .args in
+    let s = now (a .sums) in
     let i = c .before .before .before .loop .i in
-    omega (arith, over-by _ _ _ (c .if1 .taken), weighted-next s i (omega arith), weighted-part 1 s (i + 1) (c .before .before .before .before .args .n) (omega arith))
+    omega (arith, over-by _ _ _ (c .if1 .taken), weighted-next s i (omega arith), weighted-part 1 s (i + 1) (a .n) (omega arith))
 
 mul-sum : tie.Need-mul-sum Inv-loop μ-loop
 mul-sum c = omega (arith, within-by _ _ _ (c .if1 .left))

@@ -1,5 +1,5 @@
 -- The strip stands opened at the front of scratch, and the best values behind it are untouched by that.
-use mathlib.Core.Path.{_≡_, sym, _∙_}
+use mathlib.Core.Path.{sym, _∙_}
 use Prim.Native.Nat.{_*_}
 use native.Mathlib.Omega.{arith}
 use lib.ListN.{length as size}

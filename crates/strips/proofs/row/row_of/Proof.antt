@@ -1,6 +1,6 @@
 -- Where all eight lines have a pixel, these are eight bytes a step apart.
-use mathlib.Core.Path.{sym, refl, ap}
-use Prim.Native.Nat.{ℕ, _-_, _*_}
+use mathlib.Core.Path.{sym, refl}
+use Prim.Native.Nat.{_-_}
 use native.Mathlib.Omega.{arith}
 use Rattle.strips.proofs.Rows.{byte-below, byte-last, row-eight}
 use borrow.Author.Needs.{needs}

@@ -1,12 +1,12 @@
 -- The first k major coordinates are laid out, and the walk stands at the next.
 use mathlib.Core.Path.{_≡_, _∙_}
-use Prim.Native.Nat.{ℕ, _+_, _-_, _*_, _≤_}
+use Prim.Native.Nat.{_+_, _-_, _≤_}
 use native.Mathlib.Omega.{arith}
 use lib.ListN.{length}
 use Rattle.frame.proofs.Shapes.{top-less}
 use Rattle.strips.specs.Strips.{Stands, Laid}
 use Rattle.strips.proofs.Walks.{stands-top, stands-shift}
-use Rattle.strips.proofs.Strips.{walk-next, row-reach, laid-none, laid-more, laid-end}
+use Rattle.strips.proofs.Strips.{walk-next, row-reach, laid-more, laid-end}
 use borrow.Author.Needs.{needs}
 use Rattle.strips.proofs.strip.lay.Statement.{statement}
 use Rattle.strips.proofs.strip.lay.Tie as tie

@@ -1,5 +1,5 @@
 -- Without `raise` nothing of dst is read.
-use mathlib.Core.Path.{refl, ap, _∙_}
+use mathlib.Core.Path.{ap, _∙_}
 use Prim.Native.Nat.{ℕ, max}
 use lib.ListN.{getD}
 use borrow.Author.Tests.{not-true, not-false}

@@ -1,5 +1,4 @@
 -- The opened strip is put back.
-use mathlib.Core.Bool.{Bool}
 use Prim.Native.Nat.{ℕ}
 use Rattle.strips.specs.Engine.{mixed}
 use Rattle.strips.proofs.Strips.{placed-strip}

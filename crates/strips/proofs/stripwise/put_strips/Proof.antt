@@ -5,7 +5,6 @@ use native.Mathlib.Omega.{arith}
 use lib.ListN.{length as size}
 use lib.Seq.{length-take-le, length-front}
 use Rattle.frame.specs.declared.sweep.Sweep.{Sweep}
-use Rattle.frame.specs.Lines.{at, place}
 use Rattle.frame.specs.Sweep.{lines}
 use Rattle.strips.specs.Engine.{mixed}
 use Rattle.strips.specs.Strips.{openedOn, Placed, below}

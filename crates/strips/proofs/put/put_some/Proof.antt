@@ -6,8 +6,8 @@ use lib.ListN.{length}
 use Rattle.strips.specs.Strips.{RowPut}
 use Rattle.strips.proofs.Rows.{row-put-none, row-put-more, row-put-end}
 use borrow.Author.Needs.{needs}
-use Rattle.strips.proofs.row.put_some.Statement.{statement}
-use Rattle.strips.proofs.row.put_some.Tie as tie
+use Rattle.strips.proofs.put.put_some.Statement.{statement}
+use Rattle.strips.proofs.put.put_some.Tie as tie
 
 abbrev Inv-loop : tie.InvT-loop
 Inv-loop dst₀ minors minor base t u x j₀ dst j = (j ≤ 8) × (length x ≡ 8) × RowPut minors minor base t u j x dst₀ dst

@@ -4,8 +4,8 @@ use Prim.Native.Nat.{_-_}
 use native.Mathlib.Omega.{arith}
 use Rattle.strips.proofs.Rows.{byte-below, byte-last, row-put-eight}
 use borrow.Author.Needs.{needs}
-use Rattle.strips.proofs.row.put_row.Statement.{statement}
-use Rattle.strips.proofs.row.put_row.Tie as tie
+use Rattle.strips.proofs.put.put_row.Statement.{statement}
+use Rattle.strips.proofs.put.put_row.Tie as tie
 
 put-some-requires : tie.Need-put-some-requires
 put-some-requires c κs = search needs

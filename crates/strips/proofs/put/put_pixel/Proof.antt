@@ -3,8 +3,8 @@ use Prim.Native.Nat.{_-_}
 use native.Mathlib.Omega.{arith}
 use Rattle.strips.proofs.Rows.{meets-low, meets-high, meets-here, byte-below, put-none, put-one}
 use borrow.Author.Needs.{needs}
-use Rattle.strips.proofs.row.put_pixel.Statement.{statement}
-use Rattle.strips.proofs.row.put_pixel.Tie as tie
+use Rattle.strips.proofs.put.put_pixel.Statement.{statement}
+use Rattle.strips.proofs.put.put_pixel.Tie as tie
 
 returns : tie.Need-returns
 returns c = put-none _ _ _ _ _ _ _ (meets-low _ _ _ (c .if1 .taken))
