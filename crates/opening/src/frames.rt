@@ -4,7 +4,6 @@ use crate::rowwise::open_rows;
 use answer::Answer;
 use frame::Direction;
 use frame::Shape;
-use strips::put_frame;
 use strips::strip_bytes;
 ghost use mathlib.Core.Path.{_≡_};
 ghost use lib.ListN;
@@ -33,7 +32,8 @@ fn refusal(
     lacking(shape, length, size, room, spare, strip_bytes(shape))
 }
 
-// The opening into dst: along by rows, else by strips.
+// The opening into dst. Along, each row is opened as it comes; else dst gets a copy, by windows of one pixel, and is opened where it stands. In a shallow
+// direction scratch holds the marks of the passes.
 fn opened_into(
     src: &[u8],
     shape: Shape,
@@ -45,13 +45,18 @@ fn opened_into(
     requires { ⌜ Ready shape d length (lib.ListN.length (now src)) (lib.ListN.length (now dst)) (lib.ListN.length (now scratch)) ⌝ }
     ensures { λ _. ⌜ Painted shape (openedPixel (now (src .entry)) shape d length) (now (dst .entry)) (now (dst .exit)) ⌝ }
 {
+    let stride = shape.stride;
     let q = d.q;
     if q == 0 {
-        let stride = shape.stride;
         open_rows(src, shape, length, stride, dst);
         return;
     }
-    put_frame(src, false, shape, d, length, dst, scratch);
+    open_rows(src, shape, 1, stride, dst);
+    if d.is_shallow() {
+        rows::open_shallow(dst, scratch, shape, d, length);
+        return;
+    }
+    rows::open_steep(dst, shape, d, length);
 }
 
 // Opens each line of the frame src in the direction d with windows of `length` pixels, into the frame dst. Hands back 0. Rules 1, 2, 3, 5, 6, 7.

@@ -1,6 +1,7 @@
 -- What `open_steep` leaves, by its tests.
 --   steep-kept      one of the tests fails: nothing changes
 --   steep-down      all pass: the lines go down the rows
+--   steep-all       the tests, as one
 --   steep-done      and every line is opened
 -- Assumes nothing.
 use mathlib.Core.Path.{_≡_, refl, sym, _∙_}
@@ -33,13 +34,12 @@ module _ {sh : Shape} {d : Direction} (a : Accepted sh d) (steep : shallow d ≡
       let f = framed sh (a .frame) in
       record { sane = sane; next = rw steep refl; apart = rw steep (f .past); room = rw steep room }
 
-  pub steep-done : (L : ℕ) (g g′ : List ℕ) → 1 ≤ L → needed sh ≤ length g
-      → OpensLines (sweepOf sh d) L g g′ → OpensSteep sh d L g g′
+  pub steep-all : (L : ℕ) (g : List ℕ) → 1 ≤ L → needed sh ≤ length g → opensSteep sh d L g ≡ true
+  steep-all L g some room = rw (a .frame, a .direction, steep, le-leb 1 L some, le-leb (needed sh) (length g) room)
+
+  pub steep-done : (L : ℕ) (g g′ : List ℕ) → 1 ≤ L → needed sh ≤ length g → OpensLines (sweepOf sh d) L g g′ → OpensSteep sh d L g g′
   steep-done L g g′ some room o =
       record {
         done = λ e. o;
-        none = λ e. absurd (true≢false (sym all ∙ e));
+        none = λ e. absurd (true≢false (sym (steep-all L g some room) ∙ e));
       }
-    where
-      all : opensSteep sh d L g ≡ true
-      all = rw (a .frame, a .direction, steep, le-leb 1 L some, le-leb (needed sh) (length g) room)
