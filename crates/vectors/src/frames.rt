@@ -5,7 +5,7 @@ use crate::got::answered;
 use crate::got::bits;
 use crate::got::flag;
 use crate::got::nothing;
-use crate::text::Case;
+use crate::input::Case;
 use frame::Direction;
 use frame::Shape;
 

@@ -4,7 +4,7 @@ use crate::got::Got;
 use crate::got::answered;
 use crate::got::counted;
 use crate::got::nothing;
-use crate::text::Case;
+use crate::input::Case;
 use stretch::Stretch;
 
 fn check_stretch(check: u64, z: Stretch) -> u64 {

@@ -6,16 +6,16 @@ use draw::fill;
 use draw::fill_sums;
 use draw::least;
 use got::Got;
+use input::Case;
 use libc::STDIN_FILENO;
 use libc::STDOUT_FILENO;
-use text::Case;
 
 mod draw;
 mod frames;
 mod got;
+mod input;
 mod lines;
-mod sums;
-mod text;
+mod totals;
 
 // The most cases of a file.
 const MOST: usize = 100000;
@@ -55,7 +55,7 @@ fn call_sums(c: Case, src: &[u8], sums: &mut [u64], scratch: &mut [u8]) -> Got {
     let n = least(c.src, src.len());
     let k = least(c.dst, sums.len());
     let t = least(c.scratch, scratch.len());
-    sums::call(c, &src[..n], &mut sums[..k], &mut scratch[..t])
+    totals::call(c, &src[..n], &mut sums[..k], &mut scratch[..t])
 }
 
 fn call(c: Case, src: &[u8], dst: &mut [u8], sums: &mut [u64], scratch: &mut [u8]) -> Got {
@@ -118,9 +118,9 @@ fn run(text: &[u8], src: &mut [u8], dst: &mut [u8], sums: &mut [u64], scratch: &
         if text.len() <= at {
             break;
         }
-        at = text::numbers(text, at, &mut fields);
+        at = input::numbers(text, at, &mut fields);
         k += 1;
-        run_case(k as u64, text::case_of(&fields), src, dst, sums, scratch);
+        run_case(k as u64, input::case_of(&fields), src, dst, sums, scratch);
     }
 }
 

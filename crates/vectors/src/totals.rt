@@ -5,7 +5,7 @@ use crate::frames::shape_of;
 use crate::got::Got;
 use crate::got::answered;
 use crate::got::nothing;
-use crate::text::Case;
+use crate::input::Case;
 use frame::Shape;
 
 // The checksum of one row more of a rose.

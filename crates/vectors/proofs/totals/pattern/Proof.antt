@@ -4,8 +4,8 @@ use mathlib.Core.Bool.{false, not, true≢false}
 use lib.Dec.{T}
 use lib.Ieee.{Float, nan, inf, fin, isNan, ne, eq}
 use borrow.Author.Needs.{needs}
-use Rattle.vectors.proofs.sums.pattern.Statement.{statement}
-use Rattle.vectors.proofs.sums.pattern.Tie as tie
+use Rattle.vectors.proofs.totals.pattern.Statement.{statement}
+use Rattle.vectors.proofs.totals.pattern.Tie as tie
 
 no-nan : (x : Float) → ne x x ≡ false → T (not (isNan x))
 unfolding isNan ne eq

@@ -1,8 +1,8 @@
 -- The rose has sixteen rows.
 use Prim.Native.Nat.{_-_, _≤_}
 use borrow.Author.Needs.{needs}
-use Rattle.vectors.proofs.sums.check_rose.Statement.{statement}
-use Rattle.vectors.proofs.sums.check_rose.Tie as tie
+use Rattle.vectors.proofs.totals.check_rose.Statement.{statement}
+use Rattle.vectors.proofs.totals.check_rose.Tie as tie
 
 abbrev Inv-loop : tie.InvT-loop
 Inv-loop rose check₀ d₀ check d = d ≤ 16

@@ -4,8 +4,8 @@ use native.Mathlib.Omega.{arith}
 use lib.IntN.{pos}
 use borrow.Author.Needs.{needs}
 use Rattle.frame.proofs.Signs.{back, minus-fits}
-use Rattle.vectors.proofs.text.negative.Statement.{statement}
-use Rattle.vectors.proofs.text.negative.Tie as tie
+use Rattle.vectors.proofs.input.negative.Statement.{statement}
+use Rattle.vectors.proofs.input.negative.Tie as tie
 
 cast-result : tie.Need-cast-result
 cast-result c = search needs

@@ -1,8 +1,8 @@
 -- The thirteen numbers fill the array.
 use Prim.Native.Nat.{_-_, _≤_}
 use borrow.Author.Needs.{needs}
-use Rattle.vectors.proofs.text.numbers.Statement.{statement}
-use Rattle.vectors.proofs.text.numbers.Tie as tie
+use Rattle.vectors.proofs.input.numbers.Statement.{statement}
+use Rattle.vectors.proofs.input.numbers.Tie as tie
 
 abbrev Inv-loop : tie.InvT-loop
 Inv-loop text from fields₀ at₀ i₀ fields at i = i ≤ 13

@@ -1,8 +1,8 @@
 -- A row has 33 sums.
 use Prim.Native.Nat.{_-_, _≤_}
 use borrow.Author.Needs.{needs}
-use Rattle.vectors.proofs.sums.check_row.Statement.{statement}
-use Rattle.vectors.proofs.sums.check_row.Tie as tie
+use Rattle.vectors.proofs.totals.check_row.Statement.{statement}
+use Rattle.vectors.proofs.totals.check_row.Tie as tie
 
 abbrev Inv-loop : tie.InvT-loop
 Inv-loop before row check₀ i₀ check i = i ≤ 33

@@ -2,8 +2,8 @@
 use Prim.Native.Nat.{_-_, _≤_}
 use lib.ListN.{length}
 use borrow.Author.Needs.{needs}
-use Rattle.vectors.proofs.text.number.Statement.{statement}
-use Rattle.vectors.proofs.text.number.Tie as tie
+use Rattle.vectors.proofs.input.number.Statement.{statement}
+use Rattle.vectors.proofs.input.number.Tie as tie
 
 abbrev Inv-loop : tie.InvT-loop
 Inv-loop text from so-far₀ at₀ so-far at = from ≤ at
