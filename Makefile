@@ -1,4 +1,4 @@
-# make test    the gate: the layout of every file, calls from C, then every proof, must-fail edit and program from nothing (rt ci)
+# make test    the gate: the layout of every file, the referee's cases, calls from a host, then every proof, must-fail edit and program from nothing (rt ci)
 # make demo    runs the library on the marked examples of its specification, and shows what comes out
 # make bench   times it beside its peers, natively, in one run
 
@@ -6,6 +6,8 @@
 
 test:
 	@rt fmt --check
+	@check/vectors
+	@check/listing
 	@check/run
 	@rt ci
 

@@ -1,0 +1,217 @@
+// What the library must hand back and leave in each case: the numbers that crates/vectors prints, computed from the definitions and the refusal table.
+
+use crate::cases::*;
+use crate::definitions::*;
+use crate::draw::{self, check, check_bytes, check_sums};
+use crate::refusals::{self, Refusal};
+
+/// The sizes of the arrays in crates/vectors, which no case outgrows but by its guard.
+const BYTES: usize = 8704;
+const SUMS: usize = 4224;
+const SCRATCH: usize = 49152;
+
+/// The bytes, or sums, behind a lent buffer: none of those may change.
+const GUARD: u64 = 8;
+
+/// What a call hands back, in four numbers.
+#[derive(Default)]
+struct Got {
+    number: u64,
+    figure: u64,
+    first: u64,
+    second: u64,
+}
+
+/// The buffers of a case as they are lent, each with its guard behind.
+struct Lent {
+    src: Vec<u8>,
+    dst: Vec<u8>,
+    sums: Vec<u64>,
+    scratch: Vec<u8>,
+}
+
+fn guarded(n: u64, room: usize) -> usize {
+    ((n + GUARD) as usize).min(room)
+}
+
+fn lend(c: &Case) -> Lent {
+    Lent {
+        src: draw::bytes(c.src as usize, c.kind, c.seed),
+        dst: draw::bytes(guarded(c.dst, BYTES), 0, c.seed + 1),
+        sums: draw::sums(guarded(c.dst, SUMS), c.kind, c.seed + 2),
+        scratch: draw::bytes(guarded(c.scratch, SCRATCH), 0, c.seed + 3),
+    }
+}
+
+fn done(figure: usize) -> Got {
+    Got { figure: figure as u64, ..Got::default() }
+}
+
+fn refused((number, figure): Refusal) -> Got {
+    Got { number, figure, ..Got::default() }
+}
+
+/// Writes the values to the front of the destination: 'what follows is unchanged'.
+fn write(values: &[u8], dst: &mut [u8]) {
+    dst[..values.len()].copy_from_slice(values);
+}
+
+fn on_line(c: &Case, lent: &mut Lent) -> Got {
+    let refusal = match c.call {
+        ERODE => refusals::erode(c.src, c.length, c.dst),
+        DILATE => refusals::dilate(c.src, c.length, c.dst),
+        _ => refusals::open_line(c.src, c.length, c.dst, c.scratch),
+    };
+    if let Some(refusal) = refusal {
+        return refused(refusal);
+    }
+    let values = match c.call {
+        ERODE => eroded(&lent.src, c.length),
+        DILATE => dilated(&lent.src, c.length),
+        _ => opened(&lent.src, c.length),
+    };
+    write(&values, &mut lent.dst);
+    done(if c.call == OPEN_LINE { 0 } else { values.len() })
+}
+
+fn listed(c: &Case, lent: &Lent) -> Got {
+    let list = stretches(&lent.src);
+    let first = if c.call == COUNT { 0 } else { check(1, list.iter().flatten().copied()) };
+    Got { first, ..done(list.len()) }
+}
+
+/// 'The stretches are stored as records of four numbers in a table the caller lends. Entries past the list do not change.'
+fn listed_in_table(c: &Case, lent: &Lent) -> Got {
+    let list = stretches(&lent.src);
+    let mut table = vec![[1, 2, 3, 4]; (c.dst.min(4104) + GUARD) as usize];
+    let refusal = refusals::list(c.src, list.len() as u64, c.dst, c.scratch);
+    if refusal.is_none() {
+        table[..list.len()].copy_from_slice(&list);
+    }
+    let first = check(1, table.iter().flatten().copied());
+    Got { first, ..refusal.map_or_else(|| done(list.len()), refused) }
+}
+
+/// 'A row number of H or more, or a frame that rule 1 or 5 refuses, gives the empty part.'
+fn row(c: &Case, lent: &Lent) -> Got {
+    let shape = c.shape();
+    if !shape.is_frame() || c.src < shape.bytes() || c.length >= shape.height {
+        return Got { first: 1, ..done(0) };
+    }
+    let from = shape.place(0, c.length);
+    let row = &lent.src[from..from + shape.width as usize];
+    Got { first: check_bytes(1, row), ..done(row.len()) }
+}
+
+/// The first line's number and how many there are; none where rule 1 or 2 refuses.
+fn lines_of(c: &Case) -> Got {
+    if !c.shape().is_frame() || !c.direction().is_direction() {
+        return done(0);
+    }
+    let lines = lines(c.shape(), c.direction());
+    Got { first: *lines.keys().next().unwrap() as u64, ..done(lines.len()) }
+}
+
+fn looked_up(c: &Case) -> Got {
+    let (shape, d) = (c.shape(), c.direction());
+    match c.call {
+        LINES_OF => lines_of(c),
+        NUMBER => Got { first: numbered(c.length).p as u64, second: numbered(c.length).q as u64, ..done(0) },
+        SHAPE => Got { number: shape.is_frame() as u64, figure: if shape.is_frame() { shape.bytes() } else { 0 }, ..done(0) },
+        _ => Got { number: d.is_direction() as u64, figure: d.is_shallow() as u64, first: d.turned().p as u64, second: d.turned().q as u64 },
+    }
+}
+
+/// 'Gathering a line by its number writes its pixels, in line order, to the front of a destination and hands back their count'
+fn gathered(c: &Case, lent: &mut Lent) -> Got {
+    if let Some(refusal) = refusals::gather(c.shape(), c.direction(), c.line, c.src, c.dst) {
+        return refused(refusal);
+    }
+    let values = pixels(&lent.src, c.shape(), &lines(c.shape(), c.direction())[&c.line]);
+    write(&values, &mut lent.dst);
+    done(values.len())
+}
+
+/// The way back: values to the pixels of a line.
+fn scattered(c: &Case, lent: &mut Lent) -> Got {
+    if let Some(refusal) = refusals::scatter(c.shape(), c.direction(), c.line, c.src, c.dst) {
+        return refused(refusal);
+    }
+    let places = &lines(c.shape(), c.direction())[&c.line];
+    for (&(x, y), &value) in places.iter().zip(&lent.src) {
+        lent.dst[c.shape().place(x, y)] = value;
+    }
+    done(places.len())
+}
+
+fn frame_opened(c: &Case, lent: &mut Lent) -> Got {
+    let (shape, d) = (c.shape(), c.direction());
+    let refusal = match c.call {
+        OPEN_FRAME => refusals::open_frame(shape, d, c.length, c.src, c.dst, c.scratch),
+        HIGHEST => refusals::highest(shape, c.length, c.src, c.dst, c.scratch),
+        _ => refusals::direction_frame(shape, c.length, c.src, c.dst, c.scratch),
+    };
+    if let Some(refusal) = refusal {
+        return refused(refusal);
+    }
+    let mut other = lent.dst.clone();
+    match c.call {
+        OPEN_FRAME => open_frame(&lent.src, shape, d, c.length, &mut lent.dst),
+        HIGHEST => sixteen(&lent.src, shape, c.length, &mut lent.dst, &mut other),
+        _ => sixteen(&lent.src, shape, c.length, &mut other, &mut lent.dst),
+    }
+    done(0)
+}
+
+fn summed(c: &Case, lent: &mut Lent) -> Got {
+    let (shape, d) = (c.shape(), c.direction());
+    let refusal = match c.call {
+        SUMS_OF_LINE => refusals::sums_of_line(c.src, c.dst, c.scratch),
+        _ => refusals::sums_of_frame(shape, d, c.dst, c.src, c.scratch),
+    };
+    if let Some(refusal) = refusal {
+        return refused(refusal);
+    }
+    let lines = if c.call == SUMS_OF_LINE { vec![lent.src.clone()] } else { lines_read(&lent.src, shape, d) };
+    lent.sums[..c.dst as usize].copy_from_slice(&sums(&lines, c.dst - 1));
+    done(0)
+}
+
+/// 'A refused rose is a table of 64-bit largest numbers, which no sum reaches; a second call gives the refusal's number.'
+fn rose_shown(c: &Case, lent: &Lent) -> Got {
+    match refusals::rose(c.shape(), c.src, c.scratch) {
+        Some(refusal) => Got { first: check_sums(1, &[u64::MAX; 16 * 33]), ..refused(refusal) },
+        None => Got { first: check_sums(1, &rose(&lent.src, c.shape()).concat()), ..done(0) },
+    }
+}
+
+fn summarized(c: &Case, lent: &Lent) -> Got {
+    let (number, mean, share) = summary(&lent.sums[..c.dst as usize]);
+    Got { number, first: mean.to_bits(), second: share.to_bits(), ..done(0) }
+}
+
+fn called(c: &Case, lent: &mut Lent) -> Got {
+    match c.call {
+        ERODE | DILATE | OPEN_LINE => on_line(c, lent),
+        STRETCHES | COUNT => listed(c, lent),
+        LIST => listed_in_table(c, lent),
+        ROW => row(c, lent),
+        LINES_OF | NUMBER | SHAPE | DIRECTION => looked_up(c),
+        GATHER => gathered(c, lent),
+        SCATTER => scattered(c, lent),
+        OPEN_FRAME | HIGHEST | DIRECTION_FRAME => frame_opened(c, lent),
+        SUMS_OF_LINE | SUMS_OF_FRAME => summed(c, lent),
+        ROSE => rose_shown(c, lent),
+        _ => summarized(c, lent),
+    }
+}
+
+/// The line that crates/vectors prints: case, number, figure, two numbers more, and the checksum of all that was lent to be written.
+/// What a done call leaves in its scratch is not settled: there only the bytes behind it count.
+pub fn answer(number: usize, c: &Case) -> String {
+    let mut lent = lend(c);
+    let got = called(c, &mut lent);
+    let from = if got.number == 0 { (c.scratch as usize).min(lent.scratch.len()) } else { 0 };
+    let left = check_bytes(check_sums(check_bytes(1, &lent.dst), &lent.sums), &lent.scratch[from..]);
+    format!("{number}\t{}\t{}\t{:x}\t{:x}\t{left:x}", got.number, got.figure, got.first, got.second)
+}

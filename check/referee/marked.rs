@@ -1,0 +1,34 @@
+// The marked examples of the specification, P1 to P12, and those of the two programs: the referee holds its own definitions to them before it writes anything.
+
+use crate::definitions::{dilated, eroded, lines, opened, stretches, sums, Direction, Shape};
+
+const LINE: [u8; 5] = [3, 5, 5, 2, 4];
+
+/// P1 to P6.
+fn windows_hold() -> bool {
+    let openings = [(1, LINE), (2, [3, 5, 5, 2, 2]), (3, [3, 3, 3, 2, 2]), (5, [2; 5]), (6, [0; 5])];
+    openings.iter().all(|(length, expected)| opened(&LINE, *length) == expected)
+        && eroded(&LINE, 2) == [3, 5, 2, 2]
+        && dilated(&[3, 5, 2, 2], 2) == [3, 5, 5, 2, 2]
+}
+
+/// P7 to P10, and what the program stretches prints of the line.
+fn stretches_hold() -> bool {
+    stretches(&[7]) == [[0, 1, 7, 0]]
+        && stretches(&[4, 4, 4]) == [[0, 3, 4, 0]]
+        && stretches(&[1, 2, 3]) == [[2, 3, 3, 2], [1, 3, 2, 1], [0, 3, 1, 0]]
+        && stretches(&[3, 2, 1]) == [[0, 1, 3, 2], [0, 2, 2, 1], [0, 3, 1, 0]]
+        && stretches(&LINE) == [[1, 3, 5, 3], [0, 3, 3, 2], [4, 5, 4, 2], [0, 5, 2, 0]]
+}
+
+/// P11 and P12, on 4 by 2.
+fn lines_hold() -> bool {
+    let shape = Shape { width: 4, height: 2, stride: 4 };
+    let (down, up) = (lines(shape, Direction { p: 2, q: 1 }), lines(shape, Direction { p: -2, q: 1 }));
+    down[&-1] == [(1, 0), (2, 0), (3, 1)] && down[&-2] == [(3, 0)] && up[&1] == [(0, 1), (1, 0), (2, 0)]
+}
+
+/// All of them, and what the program sums prints of the line.
+pub fn hold() -> bool {
+    windows_hold() && stretches_hold() && lines_hold() && sums(&[LINE.to_vec()], 3) == [2, 4, 3, 10]
+}
