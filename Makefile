@@ -1,18 +1,25 @@
-# make test    the gate: the layout of every file, calls from C, then every proof, must-fail edit and program from nothing (rt ci)
+# make test    the gate: the layout of every file, calls from C, the host, then every proof, must-fail edit and program from nothing (rt ci)
 # make demo    runs the library on the marked examples of its specification, and shows what comes out
+# make host    builds the host that opens PGM pictures, target/host/fibre, and the maker of a chute picture, target/host/chute
 # make bench   times it beside its peers, natively, in one run
 
-.PHONY: test demo bench
+.PHONY: test demo host bench
 
 test:
 	@rt fmt --check
 	@check/run
+	@check/host
 	@rt ci
 
 demo:
 	@mkdir -p target && rt check marked > target/demo.log 2>&1 || { tail -n 5 target/demo.log; exit 1; }
 	@echo "The line 3 5 5 2 4: example, refusal number, figure, values"
 	@tools/run marked
+
+host:
+	@host/build target/host fibre
+	@host/build target/host chute
+	@echo "target/host/fibre --help says how to use it"
 
 bench:
 	@bench/run
