@@ -17,7 +17,7 @@ demo:
 	@tools/run marked
 	@host/build target/host chute
 	@host/build target/host demo
-	@target/host/chute 5 > target/host/chute.pgm
+	@target/host/chute 3 > target/host/chute.pgm
 	@echo
 	@echo "docs/demo.png: a made picture of the chute, its highest opening with length 41, and the direction that gave it, by hue"
 	@target/host/demo 41 docs/demo.png < target/host/chute.pgm

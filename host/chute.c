@@ -1,7 +1,8 @@
 /* Makes a picture of a chute with green coffee beans and jute strands, as the camera over it sees them: beans in clusters, strands across them, a bright
  * wall at both borders, uneven light and noise.
  *
- * A seed has one picture on every machine: the random numbers are whole, and nothing but + - * / and square roots is done with floats. */
+ * A seed has one picture whatever compiles this: the random numbers are whole and drawn in a settled order, one a full expression, and nothing but + - * /
+ * and square roots is done with floats. */
 #include "direction.h"
 #include "pgm.h"
 #include <math.h>
@@ -47,17 +48,19 @@ static double between(Scene *s, double low, double high)
 /* About normal, of spread 1. */
 static double normal(Scene *s)
 {
-    return between(s, -1.5, 1.5) + between(s, -1.5, 1.5) + between(s, -1, 1) + between(s, -1, 1);
+    double sum = 0;
+    for (int i = 0; i < 12; i++)
+        sum += between(s, -0.5, 0.5);
+    return sum;
 }
 
 /* A vector of length 1, every direction as likely. */
 static Point heading(Scene *s)
 {
     for (;;) {
-        Point v = {between(s, -1, 1), between(s, -1, 1)};
-        double square = v.x * v.x + v.y * v.y;
+        double x = between(s, -1, 1), y = between(s, -1, 1), square = x * x + y * y;
         if (square > 0.01 && square < 1)
-            return (Point){v.x / sqrt(square), v.y / sqrt(square)};
+            return (Point){x / sqrt(square), y / sqrt(square)};
     }
 }
 
@@ -146,8 +149,9 @@ static void draw_bean(Scene *s, const Bean *bean)
 
 static Bean bean_at(Scene *s, Point at)
 {
-    double a = between(s, 11.5, 15);
-    return (Bean){at, heading(s), a, a * between(s, 0.66, 0.78), between(s, 98, 148), between(s, 0, 1) < 0.55 ? between(s, 0.45, 0.7) : 0};
+    Point axis = heading(s);
+    double a = between(s, 11.5, 15), b = a * between(s, 0.66, 0.78), tone = between(s, 98, 148), side = between(s, 0, 1), cut = between(s, 0.45, 0.7);
+    return (Bean){at, axis, a, b, tone, side < 0.55 ? cut : 0};
 }
 
 static int is_free(const Bean *beans, int count, Point at)
@@ -166,7 +170,8 @@ static void draw_beans(Scene *s, Bean *beans, int tries)
     double apart = between(s, 0, 50000);
     int count = 0;
     for (int i = 0; i < tries; i++) {
-        Point at = {between(s, -5, s->width + 5), between(s, -5, s->height + 5)};
+        double x = between(s, -5, s->width + 5), y = between(s, -5, s->height + 5);
+        Point at = {x, y};
         if (blotch(at.x + apart, at.y, 75) < between(s, -0.6, 0.1) || !is_free(beans, count, at))
             continue;
         beans[count] = bean_at(s, at);
@@ -246,7 +251,8 @@ static Strand strand_from(Scene *s, Point from, Point along, double length, doub
 {
     Point to = {from.x + length * along.x, from.y + length * along.y};
     Point by = {(from.x + to.x) / 2 - bend * length * along.y, (from.y + to.y) / 2 + bend * length * along.x};
-    return (Strand){from, by, to, between(s, 1.0, 1.5), between(s, 185, 222), length};
+    double radius = between(s, 1.0, 1.5), tone = between(s, 185, 222);
+    return (Strand){from, by, to, radius, tone, length};
 }
 
 /* The fuzz of a strand: hairs that leave it, thin and short. */
@@ -255,7 +261,8 @@ static void draw_hairs(Scene *s, const Strand *strand)
     for (int i = 0; i < 7; i++) {
         Point from = strand_point(strand, between(s, 0, 1));
         Point along = heading(s);
-        Strand hair = strand_from(s, from, along, between(s, 7, 16), between(s, -0.3, 0.3));
+        double length = between(s, 7, 16), bend = between(s, -0.3, 0.3);
+        Strand hair = strand_from(s, from, along, length, bend);
         hair.radius = 0.15;
         cover_strand(s, &hair, 0, 0);
     }
@@ -267,8 +274,8 @@ static void draw_strands(Scene *s, int count)
     for (int i = 0; i < count; i++) {
         Point along = heading(s);
         double length = between(s, 90, 230), bend = i % 3 == 0 ? 0 : between(s, -0.14, 0.14);
-        Point middle = {between(s, 0.12, 0.88) * s->width, between(s, 0.12, 0.88) * s->height};
-        Point from = {middle.x - along.x * length / 2, middle.y - along.y * length / 2};
+        double x = between(s, 0.12, 0.88) * s->width, y = between(s, 0.12, 0.88) * s->height;
+        Point from = {x - along.x * length / 2, y - along.y * length / 2};
         Strand strand = strand_from(s, from, along, length, bend);
         draw_hairs(s, &strand);
         draw_strand(s, &strand);
@@ -314,7 +321,7 @@ static void blur(Scene *s, int count, int step, int lines, int line_step)
 
 static uint8_t sensed(Scene *s, double light)
 {
-    return (uint8_t)clamped(light + (1.5 + light / 110) * normal(s) + 0.5, 0, 255);
+    return (uint8_t)clamped(light + (2 + light / 80) * normal(s) + 0.5, 0, 255);
 }
 
 static void draw(Scene *s, Bean *beans, uint8_t *pixels)
