@@ -1,0 +1,15 @@
+-- The summary's mean is that of the summary handed back.
+use mathlib.Core.Path.{ap}
+use borrow.Author.Needs.{needs}
+use Rattle.sizes.specs.declared.summary.Summary.{Summary}
+use Rattle.demo.proofs.demo_mean.Statement.{statement}
+use Rattle.demo.proofs.demo_mean.Tie as tie
+
+summarize-requires : tie.Need-summarize-requires
+summarize-requires c κs = search needs
+
+returns : tie.Need-returns
+returns c = ap (λ (s : Summary). s .mean) (c .summarize .ensures)
+
+pub demo-mean-spec : {M : Type 1} → statement M
+demo-mean-spec = tie.close (tie.spec summarize-requires returns)

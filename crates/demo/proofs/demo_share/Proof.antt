@@ -1,0 +1,15 @@
+-- The summary's share is that of the summary handed back.
+use mathlib.Core.Path.{ap}
+use borrow.Author.Needs.{needs}
+use Rattle.sizes.specs.declared.summary.Summary.{Summary}
+use Rattle.demo.proofs.demo_share.Statement.{statement}
+use Rattle.demo.proofs.demo_share.Tie as tie
+
+summarize-requires : tie.Need-summarize-requires
+summarize-requires c κs = search needs
+
+returns : tie.Need-returns
+returns c = ap (λ (s : Summary). s .share) (c .summarize .ensures)
+
+pub demo-share-spec : {M : Type 1} → statement M
+demo-share-spec = tie.close (tie.spec summarize-requires returns)
