@@ -1,6 +1,6 @@
 # make test    the gate: the layout of every file, calls from C, then every proof, must-fail edit and program from nothing (rt ci)
 # make demo    runs the library on the marked examples of its specification, and shows what comes out
-# make bench   times it beside its peers, natively, in one run
+# make bench   times it beside its peers, natively, in one run (bench/run --record writes docs/BENCH.md and its plot)
 
 .PHONY: test demo bench
 
