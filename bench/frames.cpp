@@ -154,7 +154,7 @@ static void print_directions(const Bench &b)
 {
     std::printf("\n%ld x %ld, stride %ld, each direction: the library in nanoseconds a pixel, then how many times as long the stack algorithm in C and OpenCV take.\n\n", b.src.width, b.src.height,
                 b.src.stride);
-    std::printf("| direction | ours, L = 5 | 21 | 101 | 401 | stack in C, L = 5 | 21 | 101 | 401 | OpenCV, L = 5 | 21 | 101 | 401 |\n|---|---|---|---|---|---|---|---|---|---|---|---|---|\n");
+    std::printf("| direction | library, L = 5 | 21 | 101 | 401 | stack in C, L = 5 | 21 | 101 | 401 | OpenCV, L = 5 | 21 | 101 | 401 |\n|---|---|---|---|---|---|---|---|---|---|---|---|---|\n");
     for (int n = 0; n < 16; n++) {
         std::printf("| (%2ld, %ld)", long(SIXTEEN[n].p), long(SIXTEEN[n].q));
         for (auto &t : b.times[n])
@@ -187,7 +187,7 @@ int main(int argc, char **argv)
     for (auto &b : benches)
         b->measure_all();
     std::printf("The range is over the directions; a ratio says how many times as long the peer takes.\n\n");
-    std::printf("| frame | length | ours, ns a pixel | stack in C | OpenCV | Leptonica along | across |\n|---|---|---|---|---|---|---|\n");
+    std::printf("| frame | length | library, ns a pixel | stack in C | OpenCV | Leptonica along | across |\n|---|---|---|---|---|---|---|\n");
     for (auto &b : benches)
         for (int i = 0; i < COUNT; i++)
             print_spread(*b, i);

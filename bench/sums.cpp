@@ -45,7 +45,7 @@ int main()
     Frame src = blurred_frame(1024, 1024, 1024);
     Picture scratch(8 * 1024);
     std::printf("\n## Size sums\n\n`sums_of_frame` of a 1,024 x 1,024 frame, nanoseconds a pixel, best of 15; the last column says how many times as long as C it takes.\n\n");
-    std::printf("| direction | bins | ours | C | times C |\n|---|---|---|---|---|\n");
+    std::printf("| direction | bins | library | C | times C |\n|---|---|---|---|---|\n");
     for (Direction d : DIRECTIONS)
         for (size_t bins : {1, 64, 4096}) {
             Sums ours(bins + 1), theirs(bins + 1);
