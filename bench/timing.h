@@ -1,4 +1,4 @@
-// How a call is timed: a warm-up, then the best of several runs, in nanoseconds a pixel. The clock is the thread's own, so that other work on the machine does not count.
+// How a call is timed: a warm-up, then the best of several runs, in nanoseconds a pixel. The clock is the thread's own: waiting for a processor does not count.
 #pragma once
 #include <algorithm>
 #include <ctime>
