@@ -1,4 +1,5 @@
-// Size sums of a 1,024 x 1,024 frame, beside plain C of the same stack algorithm. Every result is compared before it is timed.
+// Size sums of a 1,024 x 1,024 frame, beside plain C of the same stack algorithm. Every result is compared; a difference, or a
+// ratio above the target, makes the exit status 1.
 #include "library.h"
 #include "naive.h"
 #include "peers/sums.h"
