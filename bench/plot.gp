@@ -3,9 +3,9 @@ set terminal pngcairo size 1600,860 font "DejaVu Sans,12"
 set output picture
 set logscale xy
 set xrange [4:500]
-set yrange [0.2:200]
+set yrange [0.1:200]
 set xtics (5, 21, 101, 401)
-set ytics (0.2, 0.5, 1, 2, 5, 10, 20, 50, 100, 200)
+set ytics (0.1, 0.2, 0.5, 1, 2, 5, 10, 20, 50, 100, 200)
 set grid ytics lt 1 lw 1 lc rgb "#d0d0d0"
 set key off
 set label 1 "this library" at screen 0.18,0.03 point pt 7 ps 1.5 lc rgb "#c0392b" offset 1.5,0 font ",14"
