@@ -18,5 +18,8 @@ Answer bench_erode(const uint8_t *src, size_t n, size_t length, uint8_t *dst, si
 Answer bench_dilate(const uint8_t *src, size_t m, size_t length, uint8_t *dst, size_t room);
 Answer bench_open_line(const uint8_t *src, size_t n, size_t length, uint8_t *dst, size_t room, uint8_t *scratch, size_t spare);
 Answer bench_gather(const uint8_t *src, size_t bytes, size_t width, size_t height, size_t stride, int64_t p, int64_t q, int64_t line, uint8_t *dst, size_t room);
+Answer bench_highest(const uint8_t *src, size_t bytes, size_t width, size_t height, size_t stride, size_t length, uint8_t *dst, size_t room, uint8_t *scratch, size_t spare);
+Answer bench_direction_frame(const uint8_t *src, size_t bytes, size_t width, size_t height, size_t stride, size_t length, uint8_t *dst, size_t room, uint8_t *scratch, size_t spare);
+Answer bench_sums_of_frame(const uint8_t *src, size_t bytes, size_t width, size_t height, size_t stride, int64_t p, int64_t q, uint64_t *sums, size_t entries, uint8_t *scratch, size_t spare);
 Answer list(const uint8_t *line, size_t n, Stretch *table, size_t entries, uint8_t *scratch, size_t spare);
 }

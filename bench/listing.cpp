@@ -34,15 +34,16 @@ int main()
     static Stretch ours[N];
     static struct stretch theirs[N];
     bool good = true;
-    std::printf("\nStretches: %ld lines of %ld pixels, nanoseconds a pixel, best of 15\n%10s %10s %12s %8s\n", N, N, "picture", "list", "stack in C", "times C");
+    std::printf("\n## Stretches\n\nThe list of %ld lines of %ld pixels, nanoseconds a pixel, best of 15; the last column says how many times as long as C it takes.\n\n", N, N);
+    std::printf("| picture | list | C | times C |\n|---|---|---|---|\n");
     for (Case &c : cases) {
         bool same = agree(c.picture, ours, theirs, scratch);
         double pixels = double(N) * N;
-        double o = nanoseconds_a_pixel(pixels, 15, [&] { for (long y = 0; y < N; y++) list(&c.picture[y * N], N, ours, N, scratch.data(), scratch.size()); });
-        double t = nanoseconds_a_pixel(pixels, 15, [&] { for (long y = 0; y < N; y++) stack_list(&c.picture[y * N], N, theirs); });
-        std::printf("%10s %10.2f %12.2f %8.2f%s\n", c.name, o, t, o / t, same ? "" : "  LISTS DIFFER");
+        double o = nanoseconds_a_pixel(pixels, 15, 2, [&] { for (long y = 0; y < N; y++) list(&c.picture[y * N], N, ours, N, scratch.data(), scratch.size()); });
+        double t = nanoseconds_a_pixel(pixels, 15, 2, [&] { for (long y = 0; y < N; y++) stack_list(&c.picture[y * N], N, theirs); });
+        std::printf("| %7s | %6.2f | %6.2f | %5.2f%s |\n", c.name, o, t, o / t, same ? "" : ", LISTS DIFFER");
         good = good && same && o <= TARGET * t;
     }
-    std::printf("list is to take at most %.1f times as long as C: %s\n", TARGET, good ? "met" : "NOT MET");
+    std::printf("\n`list` is to take at most %.1f times as long as C: %s\n", TARGET, good ? "met" : "NOT MET");
     return good ? 0 : 1;
 }

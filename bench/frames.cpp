@@ -1,0 +1,227 @@
+// Opening a frame in the sixteen directions, beside OpenCV, Leptonica and plain C of document 000's stack algorithm; the highest opening beside the sixteen.
+// Every result is compared; a difference is printed and makes the exit status 1. The times go to a file too, for the plot.
+#include "../include/fibre.h"
+#include "library.h"
+#include "naive.h"
+#include "peers/leptonica.h"
+#include "peers/opencv.h"
+#include "peers/stack.h"
+#include "timing.h"
+#include <cstdio>
+#include <memory>
+#include <string>
+
+static const long LENGTHS[] = {5, 21, 101, 401};
+static const int COUNT = 4;
+static const double NONE = 0; // no such time
+static bool good = true;
+
+static void expect(bool same, const char *what, Direction d, long length)
+{
+    if (!same)
+        std::printf("\n**%s** in direction (%ld, %ld), length %ld\n", what, long(d.p), long(d.q), length);
+    good = good && same;
+}
+
+static bool open(const Frame &src, Direction d, long length, Frame &dst, Picture &scratch)
+{
+    return fibre_open_frame(src.bytes.data(), src.bytes.size(), src.width, src.height, src.stride, d.p, d.q, length, dst.bytes.data(), dst.bytes.size(), scratch.data(), scratch.size()) == 0;
+}
+
+template <class Call> bool sixteen(Call call, const Frame &src, long length, Frame &dst, Picture &scratch)
+{
+    return call(src.bytes.data(), src.bytes.size(), src.width, src.height, src.stride, length, dst.bytes.data(), dst.bytes.size(), scratch.data(), scratch.size()).number == 0;
+}
+
+// The highest of the openings so far, and the number of the first that reaches it, by their definitions.
+struct Leaders {
+    Frame highest, direction;
+
+    void follow(int n, const Frame &opened)
+    {
+        for (long y = 0; y < opened.height; y++)
+            for (long x = 0; x < opened.width; x++)
+                if (n == 0 || highest.at(x, y) < opened.at(x, y)) {
+                    highest.at(x, y) = opened.at(x, y);
+                    direction.at(x, y) = n;
+                }
+    }
+};
+
+// All calls on a small frame, beside the definitions.
+static void check_small()
+{
+    Frame src = blurred_frame(150, 70, 157);
+    Picture scratch(8 * 150 + 150 * 70);
+    for (long length : {1, 2, 5, 21, 64, 70, 71, 101, 150, 151}) {
+        Frame ours(150, 70, 157, 9), opened = ours;
+        Leaders leaders = {ours, ours};
+        for (int n = 0; n < 16; n++) {
+            naive_open(src, SIXTEEN[n], length, opened);
+            expect(open(src, SIXTEEN[n], length, ours, scratch) && ours.bytes == opened.bytes, "The opening differs from its definition", SIXTEEN[n], length);
+            leaders.follow(n, opened);
+        }
+        expect(sixteen(bench_highest, src, length, ours, scratch) && ours.bytes == leaders.highest.bytes, "The highest opening differs from its definition", {}, length);
+        expect(sixteen(bench_direction_frame, src, length, ours, scratch) && ours.bytes == leaders.direction.bytes, "The direction frame differs from its definition", {}, length);
+    }
+}
+
+// Whether `theirs` has the values of `ours` at each pixel whose windows all lie on the picture: the peers let windows leave it.
+template <class Values> bool agree_inside(const Frame &ours, Direction d, long length, Values theirs)
+{
+    long beside = d.p != 0 ? length - 1 : 0, above = d.q != 0 ? length - 1 : 0;
+    for (long y = above; y < ours.height - above; y++)
+        for (long x = beside; x < ours.width - beside; x++)
+            if (ours.at(x, y) != theirs(x, y))
+                return false;
+    return true;
+}
+
+struct Times {
+    double ours, stack, opencv, leptonica;
+};
+
+struct Bench {
+    Frame src, ours, theirs;
+    Picture scratch;
+    Leptonica leptonica;
+    Times times[16][COUNT];
+    double highest[COUNT], direction[COUNT];
+
+    Bench(long side, long stride)
+        : src(blurred_frame(side, side, stride)), ours(side, side, stride, 9), theirs(ours), scratch(8 * side + side * side), leptonica(src)
+    {
+    }
+    template <class Call> double time(Call call) { return nanoseconds_a_pixel(src.pixels(), 15, 0.4, call); }
+    Times measure(Direction d, long length);
+    void measure_all();
+};
+
+Times Bench::measure(Direction d, long length)
+{
+    Times t = {NONE, NONE, NONE, NONE};
+    t.ours = time([&] { expect(open(src, d, length, ours, scratch), "The opening is refused", d, length); });
+    t.stack = time([&] { stack_open_frame(src.bytes.data(), src.width, src.height, src.stride, d.p, d.q, length, theirs.bytes.data()); });
+    expect(ours.bytes == theirs.bytes, "The stack's opening differs", d, length);
+    cv::Mat kernel = opencv_segment(d, length);
+    t.opencv = time([&] { opencv_open(src, kernel, theirs); });
+    bool straight = d.p == 0 || d.q == 0;
+    if (straight || std::abs(d.p) == std::abs(d.q)) // else the rounded segment's shape depends on where it lies
+        expect(agree_inside(ours, d, length, [&](long x, long y) { return theirs.at(x, y); }), "OpenCV's opening differs", d, length);
+    if (straight) {
+        t.leptonica = time([&] { leptonica.open(d, length); });
+        expect(agree_inside(ours, d, length, [&](long x, long y) { return leptonica.at(x, y); }), "Leptonica's opening differs", d, length);
+    }
+    return t;
+}
+
+void Bench::measure_all()
+{
+    for (int i = 0; i < COUNT; i++) {
+        Leaders leaders = {ours, ours};
+        for (int n = 0; n < 16; n++) {
+            times[n][i] = measure(SIXTEEN[n], LENGTHS[i]);
+            leaders.follow(n, ours);
+        }
+        highest[i] = time([&] { expect(sixteen(bench_highest, src, LENGTHS[i], ours, scratch), "The highest opening is refused", {}, LENGTHS[i]); });
+        expect(ours.bytes == leaders.highest.bytes, "The highest opening differs from the sixteen", {}, LENGTHS[i]);
+        direction[i] = time([&] { expect(sixteen(bench_direction_frame, src, LENGTHS[i], ours, scratch), "The direction frame is refused", {}, LENGTHS[i]); });
+        expect(ours.bytes == leaders.direction.bytes, "The direction frame differs from the sixteen", {}, LENGTHS[i]);
+    }
+}
+
+// A number of times, to two or three digits.
+static std::string times_as(double ratio)
+{
+    char text[32];
+    std::snprintf(text, sizeof text, "%5.*f", ratio < 9.95 ? 2 : ratio < 99.5 ? 1 : 0, ratio);
+    return text;
+}
+
+// A row of the summary: the lowest and highest of the sixteen directions.
+static void print_spread(const Bench &b, int i)
+{
+    double low[3] = {1e300, 1e300, 1e300}, high[3] = {0, 0, 0};
+    for (auto &row : b.times) {
+        double figures[3] = {row[i].ours, row[i].stack / row[i].ours, row[i].opencv / row[i].ours};
+        for (int k = 0; k < 3; k++) {
+            low[k] = std::min(low[k], figures[k]);
+            high[k] = std::max(high[k], figures[k]);
+        }
+    }
+    std::printf("| %4ld x %4ld | %3ld | %5.2f to %5.2f", b.src.width, b.src.height, LENGTHS[i], low[0], high[0]);
+    for (int k = 1; k < 3; k++)
+        std::printf(" | %s to %s", times_as(low[k]).c_str(), times_as(high[k]).c_str());
+    for (int n : {0, 8})
+        std::printf(" | %s", times_as(b.times[n][i].leptonica / b.times[n][i].ours).c_str());
+    std::printf(" |\n");
+}
+
+static void print_sixteen(const Bench &b, int i)
+{
+    double sum = 0;
+    for (auto &row : b.times)
+        sum += row[i].ours;
+    std::printf("| %4ld x %4ld | %3ld | %7.2f | %7.2f | %5.2f | %7.2f | %5.2f |\n", b.src.width, b.src.height, LENGTHS[i], sum, b.highest[i], b.highest[i] / sum, b.direction[i],
+                b.direction[i] / sum);
+}
+
+static void print_directions(const Bench &b)
+{
+    std::printf("\n%ld x %ld, stride %ld, each direction: the library in nanoseconds a pixel, then how many times as long the stack algorithm in C and OpenCV take.\n\n", b.src.width, b.src.height,
+                b.src.stride);
+    std::printf("| direction | library, L = 5 | 21 | 101 | 401 | stack in C, L = 5 | 21 | 101 | 401 | OpenCV, L = 5 | 21 | 101 | 401 |\n|---|---|---|---|---|---|---|---|---|---|---|---|---|\n");
+    for (int n = 0; n < 16; n++) {
+        std::printf("| (%2ld, %ld)", long(SIXTEEN[n].p), long(SIXTEEN[n].q));
+        for (auto &t : b.times[n])
+            std::printf(" | %5.2f", t.ours);
+        for (auto &t : b.times[n])
+            std::printf(" | %s", times_as(t.stack / t.ours).c_str());
+        for (auto &t : b.times[n])
+            std::printf(" | %s", times_as(t.opencv / t.ours).c_str());
+        std::printf(" |\n");
+    }
+}
+
+static void keep(const Bench &b, FILE *file)
+{
+    for (int n = 0; n < 16; n++)
+        for (int i = 0; i < COUNT; i++) {
+            Times t = b.times[n][i];
+            std::fprintf(file, "%ld %d %ld %.4f %.4f %.4f %.4f\n", b.src.width, n, LENGTHS[i], t.ours, t.stack, t.opencv, t.leptonica);
+        }
+}
+
+int main(int argc, char **argv)
+{
+    if (argc != 2)
+        return 2;
+    cv::setNumThreads(1);
+    std::printf("\n## Frames\n\nOpening a frame in each of the sixteen directions with `fibre_open_frame`.\n");
+    check_small();
+    std::unique_ptr<Bench> benches[2] = {std::make_unique<Bench>(1024, 1024), std::make_unique<Bench>(4096, 4160)};
+    for (auto &b : benches)
+        b->measure_all();
+    std::printf("The range is over the directions; a ratio says how many times as long the peer takes.\n\n");
+    std::printf("| frame | length | library, ns a pixel | stack in C | OpenCV | Leptonica along | across |\n|---|---|---|---|---|---|---|\n");
+    for (auto &b : benches)
+        for (int i = 0; i < COUNT; i++)
+            print_spread(*b, i);
+    std::printf("\nThe highest opening and the direction frame, beside the sixteen openings one after the other: nanoseconds a pixel, and how many times their sum.\n\n");
+    std::printf("| frame | length | sixteen openings | highest | times the sum | direction frame | times the sum |\n|---|---|---|---|---|---|---|\n");
+    for (auto &b : benches)
+        for (int i = 0; i < COUNT; i++)
+            print_sixteen(*b, i);
+    FILE *file = std::fopen(argv[1], "w");
+    if (!file)
+        return 2;
+    for (auto &b : benches) {
+        print_directions(*b);
+        keep(*b, file);
+    }
+    std::fclose(file);
+    std::printf("\nEvery result equals its definition on a small frame. On these, every opening equals the stack algorithm's, and, where all windows lie on the picture, Leptonica's, and OpenCV's along,\n"
+                "across and on the diagonals; the highest and the direction frame agree with the sixteen: %s\n",
+                good ? "yes" : "NO");
+    return good ? 0 : 1;
+}
