@@ -2,6 +2,12 @@
 --   Decimal     a number as decimal text
 --   Lines       lines of text: a letter and fields
 --   Sums        the sums text, and the call that writes it
+--   Reading     reading numbers, lines and rows
+--   Inputs      the programs' input, and the call that reads it
+--   Steps       what the private parts of reading keep to
 pub mod Decimal
 pub mod Lines
 pub mod Sums
+pub mod Reading
+pub mod Inputs
+pub mod Steps

@@ -1,6 +1,11 @@
 // The texts of the two programs: what they print, and how their input is read.
 mod decimal;
+mod input;
 mod lines;
+mod reading;
 mod sums;
 
+pub use input::Input;
+pub use input::LARGEST;
+pub use input::read_input;
 pub use sums::sums_text;
