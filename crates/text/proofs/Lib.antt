@@ -5,9 +5,11 @@
 --   Readings    reading a text place by place: numbers and fields
 --   Goings      reading values one after the other: fields, lines and rows
 --   Frames      reading an input, rule by rule
+--   Inputs      what is read is there as text, and what is there as text is read
 pub mod Decimals
 pub mod Runs
 pub mod Texts
 pub mod Readings
 pub mod Goings
 pub mod Frames
+pub mod Inputs

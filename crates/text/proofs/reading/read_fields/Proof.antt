@@ -1,5 +1,6 @@
 -- The first i fields stand in the buffer, the others are still to come.
 use mathlib.Core.Path.{_≡_, refl, sym, subst, _∙_}
+use mathlib.Core.Bool.{true}
 use mathlib.Core.List.{[], _∷_}
 use Prim.Native.Nat.{ℕ, _+_, _-_, _*_, _≤_}
 use native.Mathlib.Omega.{arith}
@@ -69,7 +70,7 @@ add-values c =
     let count = c .before .before .before .before .before .before .before .before .args .count in
     let turn = c .before .before .before .before .before .loop in
     let field = c .before .before .before .read-field in
-    let found = not-false _ (c .before .if1 .left) in
+    let found : field .result .found ≡ true = not-false _ (c .before .if1 .left) in
     let room = c .before .before .before .before .before .before .before .before .pre .0 in
     omega (arith, field .ensures .far found, field .ensures .inside found, turn .inv .1, turn .inv .2, room .fewer, room .large)
 
@@ -83,7 +84,7 @@ slice-write-values c =
     let count = c .before .before .before .before .before .before .before .before .args .count in
     let turn = c .before .before .before .before .before .loop in
     let field = c .before .before .before .read-field in
-    let found = not-false _ (c .before .if1 .left) in
+    let found : field .result .found ≡ true = not-false _ (c .before .if1 .left) in
     let room = c .before .before .before .before .before .before .before .before .pre .0 in
     omega (arith, field .ensures .far found, field .ensures .inside found, turn .inv .1, turn .inv .2, room .fewer, room .large)
 
