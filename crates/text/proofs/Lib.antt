@@ -6,6 +6,7 @@
 --   Goings      reading values one after the other: fields, lines and rows
 --   Frames      reading an input, rule by rule
 --   Inputs      what is read is there as text, and what is there as text is read
+--   Reports     what is printed of a line
 pub mod Decimals
 pub mod Runs
 pub mod Texts
@@ -13,3 +14,4 @@ pub mod Readings
 pub mod Goings
 pub mod Frames
 pub mod Inputs
+pub mod Reports

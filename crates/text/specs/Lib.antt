@@ -5,9 +5,11 @@
 --   Reading     reading numbers, lines and rows
 --   Inputs      the programs' input, and the call that reads it
 --   Steps       what the private parts of reading keep to
+--   Stretches   what is printed of a line and of a refusal, and the calls that write it
 pub mod Decimal
 pub mod Lines
 pub mod Sums
 pub mod Reading
 pub mod Inputs
 pub mod Steps
+pub mod Stretches

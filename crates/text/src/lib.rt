@@ -3,9 +3,12 @@ mod decimal;
 mod input;
 mod lines;
 mod reading;
+mod stretches;
 mod sums;
 
 pub use input::Input;
 pub use input::LARGEST;
 pub use input::read_input;
+pub use stretches::line_text;
+pub use stretches::refusal_text;
 pub use sums::sums_text;
