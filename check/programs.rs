@@ -193,8 +193,10 @@ fn text(direction: usize, width: usize, height: usize, pixel: &mut dyn FnMut(usi
 fn frames(noise: &mut Noise) -> Vec<Vec<u8>> {
     let mut all = vec![b"D\t0\nF\t5\t1\nR\t3\t5\t5\t2\t4\n".to_vec()];
     for d in 0..16 {
-        let (w, h) = (1 + noise.below(12) as usize, 1 + noise.below(12) as usize);
-        all.push(text(d, w, h, &mut |_| noise.below(256)));
+        for levels in [2, 5, 40, 256] {
+            let (w, h) = (1 + noise.below(16) as usize, 1 + noise.below(16) as usize);
+            all.push(text(d, w, h, &mut |_| noise.below(levels)));
+        }
         all.push(text(d, 9, 7, &mut |_| noise.below(3)));
         all.push(text(d, 1, 6, &mut |_| noise.below(4)));
         all.push(text(d, 6, 1, &mut |_| 255 * noise.below(2)));

@@ -8,7 +8,7 @@
 --   input-refused, input-done    what the call hands back
 -- Assumes nothing.
 use mathlib.Core.Path.{_≡_, refl, sym, ap, _∙_}
-use mathlib.Core.Bool.{Bool, true, false, cond, _&&_, not, false≢true}
+use mathlib.Core.Bool.{Bool, true, false, cond, _&&_, false≢true}
 use mathlib.Core.List.{List, [], _∷_, _++_, append-assoc}
 use Prim.Native.Nat.{ℕ, zero, suc, _+_, _*_, _≤_, _<_, zero-le}
 use native.Mathlib.Nat.{suc-mul, mul-comm}
@@ -20,7 +20,7 @@ use Rattle.lists.specs.Stores.{front}
 use Rattle.lists.proofs.Cases.{both-left}
 use Rattle.answer.specs.declared.Answer.{Answer}
 use Rattle.answer.specs.Limits.{longest, widest}
-use Rattle.answer.specs.Rules.{answer, done, refusal, by-number, after, outside}
+use Rattle.answer.specs.Rules.{answer, done, refusal, by-number, outside}
 use Rattle.answer.proofs.Rules.{kept}
 use Rattle.text.specs.declared.input.Input.{Input}
 use Rattle.text.specs.declared.reading.Mark.{Mark}

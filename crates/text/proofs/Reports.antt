@@ -7,7 +7,7 @@
 --   prints-done, prints-none     a text put at the front, or none
 --   printable                    what the test of a line says
 -- Document 01's example of the program stretches is computed at the end. Assumes nothing.
-use mathlib.Core.Path.{_≡_, refl, sym, ap, _∙_}
+use mathlib.Core.Path.{_≡_, refl, _∙_}
 use mathlib.Core.Bool.{Bool, true, false, cond, _&&_}
 use mathlib.Core.List.{List, [], _∷_, _++_}
 use Prim.Native.Nat.{ℕ, _+_, _*_, _≤_, zero-le}

@@ -21,7 +21,7 @@ use Rattle.answer.specs.Limits.{longest}
 use Rattle.stretch.specs.declared.Stretch.{Stretch}
 use Rattle.stretch.specs.Stretches.{stretches}
 use Rattle.text.specs.Decimal.{decimal}
-use Rattle.text.specs.Lines.{tab, feed, fieldsText, lineText}
+use Rattle.text.specs.Lines.{tab, feed, lineText}
 
 -- 'only a line number may have a minus sign'
 abbrev pub signedText : ℤ → List ℕ

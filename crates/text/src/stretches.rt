@@ -8,7 +8,6 @@ use stretch::Stretch;
 use stretch::begin;
 use stretch::next;
 ghost use mathlib.Core.Path.{_≡_};
-ghost use mathlib.Core.List.{[], _∷_};
 ghost use Prim.Native.Nat.{_+_, _*_, _≤_, _<_, _^_};
 ghost use lib.Dec.{leb};
 ghost use lib.IntN.{natAbs};

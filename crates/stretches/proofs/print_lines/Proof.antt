@@ -1,12 +1,10 @@
 -- Every line's number is small, so that none wraps.
-use mathlib.Core.Path.{_≡_, ap, _∙_}
-use Prim.Native.Nat.{_-_, _*_, _≤_}
+use mathlib.Core.Path.{_≡_}
+use Prim.Native.Nat.{_-_, _≤_}
 use native.Mathlib.Omega.{arith}
-use lib.IntN.{ℤ, natAbs}
 use mir.Syntax.{w64}
 use mir.Val.{toZ, ofZ}
 use mir.Facts.{toZ-ofZ}
-use Rattle.answer.specs.Limits.{longest}
 use Rattle.stretches.proofs.Near.{Near, near}
 use borrow.Author.Needs.{needs}
 use Rattle.stretches.proofs.print_lines.Statement.{statement}

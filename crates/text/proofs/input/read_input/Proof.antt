@@ -1,11 +1,9 @@
 -- The rules, and then the pixels at the front.
-use mathlib.Core.Path.{_≡_, refl, sym, ap, ap₂, _∙_}
-use Prim.Native.Nat.{ℕ, _+_, _*_, _≤_}
+use mathlib.Core.Path.{sym, ap₂, _∙_}
+use Prim.Native.Nat.{ℕ, _*_}
 use native.Mathlib.Omega.{arith}
-use lib.ListN.{length, take, drop}
-use Rattle.lists.specs.Stores.{front}
+use lib.ListN.{length}
 use Rattle.answer.proofs.Rules.{after-done, after-refused}
-use Rattle.text.specs.Inputs.{widthIn, heightIn, rowsIn}
 use Rattle.text.proofs.Frames.{input-fits, input-value, input-small, input-room, input-below, input-pixels, input-refused, input-done}
 use borrow.Author.Needs.{needs}
 use Rattle.text.proofs.input.read_input.Statement.{statement}

@@ -1,16 +1,16 @@
 -- Each way out has made the tests of the rules up to its own.
-use mathlib.Core.Path.{_≡_, refl, sym, ap, ap₂, _∙_}
+use mathlib.Core.Path.{_≡_, sym, ap, ap₂, _∙_}
 use Prim.Native.Nat.{ℕ, _*_}
 use native.Mathlib.Nat.{lt-of-le-of-lt, mul-le-mul}
 use native.Mathlib.Omega.{arith}
 use lib.Dec.{lit<}
-use lib.ListN.{length, getD, drop}
+use lib.ListN.{length, drop}
 use lib.Seq.{length-sets}
 use borrow.Author.Tests.{not-true, not-false}
 use Rattle.answer.specs.Limits.{longest}
 use Rattle.answer.specs.Rules.{outside}
 use Rattle.answer.proofs.Rules.{outside-not}
-use Rattle.text.specs.Reading.{Values, rowsOf}
+use Rattle.text.specs.Reading.{rowsOf}
 use Rattle.text.specs.Inputs.{headOf, widthIn, heightIn, rowsIn}
 use Rattle.text.specs.Steps.{Stores}
 use Rattle.text.proofs.Frames.{head-many, head-values, refused-size, refused-head, refused-width, refused-height, refused-direction, refused-rows, refused-room, accepted, tests-refused, tests-done}

@@ -1,6 +1,5 @@
 -- The two tests are those of the definition.
 use borrow.Author.Tests.{lt-leb, le-leb}
-use borrow.Author.Needs.{needs}
 use Rattle.text.proofs.reading.is_digit.Statement.{statement}
 use Rattle.text.proofs.reading.is_digit.Tie as tie
 

@@ -1,5 +1,5 @@
 -- The letter, the fields and the line feed, in this order.
-use mathlib.Core.Path.{_≡_, sym, _∙_}
+use mathlib.Core.Path.{sym, _∙_}
 use native.Mathlib.Omega.{arith}
 use borrow.Author.Tests.{not-true, not-false}
 use Rattle.text.specs.Lines.{feed}

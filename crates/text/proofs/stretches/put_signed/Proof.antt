@@ -1,10 +1,8 @@
 -- The sign, where there is one, and the digits.
-use mathlib.Core.Path.{_≡_, ap, _∙_}
-use mathlib.Core.Bool.{true, false}
+use mathlib.Core.Path.{ap, _∙_}
 use native.Mathlib.Omega.{arith}
-use lib.IntN.{pos, natAbs}
+use lib.IntN.{natAbs}
 use lib.ListN.{length, length-set}
-use lib.Signed.{ltZ}
 use mir.Facts.{toZ-ofZ}
 use Rattle.text.proofs.Runs.{puts-one, puts-join}
 use Rattle.text.proofs.Reports.{signed-below, signed-above, puts-as}

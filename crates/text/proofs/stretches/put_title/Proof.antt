@@ -1,14 +1,13 @@
 -- The letter and a tab, the line number, the count and the line feed.
-use mathlib.Core.Path.{_≡_, refl}
+use mathlib.Core.Path.{refl}
 use mathlib.Core.List.{List, [], _∷_}
 use Prim.Native.Nat.{ℕ}
 use native.Mathlib.Omega.{arith}
-use lib.ListN.{length, set, length-set}
+use lib.ListN.{set, length-set}
 use mir.Facts.{toZ-ofZ}
 use Rattle.text.specs.Lines.{tab, feed, Puts}
 use Rattle.text.proofs.Runs.{puts-one}
 use Rattle.text.proofs.Reports.{title-length, title-put}
-use borrow.Author.Needs.{needs}
 use Rattle.text.proofs.stretches.put_title.Statement.{statement}
 use Rattle.text.proofs.stretches.put_title.Tie as tie
 

@@ -1,6 +1,4 @@
 -- The line, where it has room.
-use mathlib.Core.List.{[], _∷_}
-use native.Mathlib.Omega.{arith}
 use lib.ListN.{length}
 use borrow.Author.Tests.{lt-leb, le-leb}
 use Rattle.text.specs.Stretches.{refusalText}
