@@ -1,11 +1,13 @@
 -- What reading an input knows at each of its rules, and what it leaves.
 --   Below most vs            no value of vs is above `most`
+--   fields-below, line-below no value read is above `most`
 --   rows-many, rows-below    the rows have height times width pixels, each to 255
 --   head-many, head-values   the first two lines have three numbers, which stand at the front of the buffer
+--   stored-value             a value at the front of the buffer
 --   refused-size .. accepted the answer, by the first rule broken
 --   tests-refused, tests-done    what the tests leave
 --   input-fits, input-many, input-value, input-small, input-room, input-below, input-pixels    what they leave of an input that is not refused
---   input-refused, input-done    what the call hands back
+--   handing, input-refused, input-done    what the call hands back
 -- Assumes nothing.
 use mathlib.Core.Path.{_≡_, refl, sym, ap, _∙_}
 use mathlib.Core.Bool.{Bool, true, false, cond, _&&_, false≢true}
@@ -14,9 +16,8 @@ use Prim.Native.Nat.{ℕ, zero, suc, _+_, _*_, _≤_, _<_, zero-le}
 use native.Mathlib.Nat.{suc-mul, mul-comm}
 use native.Mathlib.Omega.{arith}
 use lib.ListN.{length, getD, take, drop, length-append, List·getD-append}
-use lib.Seq.{sets, sets-eq, drop-at, take-at, length-sets, getD-append-add}
+use lib.Seq.{sets, drop-at, take-at, length-sets, getD-append-add}
 use borrow.Author.Tests.{lt-ltb, le-ltb, ltb-false, not-false}
-use Rattle.lists.specs.Stores.{front}
 use Rattle.lists.proofs.Cases.{both-left}
 use Rattle.answer.specs.declared.Answer.{Answer}
 use Rattle.answer.specs.Limits.{longest, widest}
@@ -28,7 +29,7 @@ use Rattle.text.specs.Lines.{feed}
 use Rattle.text.specs.Reading.{Values, valued, noValues, before, starts, fieldOf, fieldsOf, ended, lineOf, rowsOf}
 use Rattle.text.specs.Inputs.{largest, headOf, directionIn, widthIn, heightIn, rowsIn, inputRules, inputOf}
 use Rattle.text.specs.Steps.{Stores, Tests}
-use Rattle.text.proofs.Runs.{sets-more}
+use Rattle.text.proofs.Runs.{sets-join, sets-front}
 use Rattle.text.proofs.Readings.{field-bound}
 use Rattle.text.proofs.Goings.{line-many}
 
@@ -108,12 +109,9 @@ unfolding headOf
 head-many s e =
     many-head (lineOf 68 widest 1 s .found) (lineOf 68 widest 1 s .values) (lineOf 70 widest 2 (lineOf 68 widest 1 s .rest)) (line-many 68 widest 1 s) (line-many 70 widest 2 (lineOf 68 widest 1 s .rest)) e
 
--- values stored from the first entry on
-pub stored-front : (vs xs : List ℕ) → length xs ≤ length vs → sets vs 0 xs ≡ front xs vs
-stored-front vs xs fit = let same : 0 + length xs ≡ length xs = omega arith in sets-eq xs vs 0 (omega arith) ∙ ap (λ (n : ℕ). xs ++ drop n vs) same
-
+-- a value stored from the first entry on
 pub stored-value : (vs xs : List ℕ) (k : ℕ) → length xs ≤ length vs → k < length xs → getD (sets vs 0 xs) k 0 ≡ getD xs k 0
-stored-value vs xs k fit h = rw (stored-front vs xs fit) (List·getD-append xs (drop (length xs) vs) 0 k h)
+stored-value vs xs k fit h = rw (sets-front vs xs fit) (List·getD-append xs (drop (length xs) vs) 0 k h)
 
 pub head-values : (s vs vs′ : List ℕ) (r : Mark) → Stores (headOf s) s 0 0 vs vs′ r → r .found ≡ true → 3 ≤ length vs → (k : ℕ) → k < 3 → getD vs′ k 0 ≡ getD (headOf s .values) k 0
 head-values s vs vs′ r first f fit k h =
@@ -166,12 +164,9 @@ tests-done s room vs vs₁ vs₂ head rows a first f second g size e q =
     let three = head-many s (sym (first .found) ∙ f) in
     record {
       answers = e ∙ sym q;
-      stored = λ z. second .stored g ∙ rw (first .stored f) (join vs (headOf s .values) (rowsIn s .values) three);
+      stored = λ z. second .stored g ∙ rw (first .stored f) (sets-join vs (headOf s .values) (rowsIn s .values) 3 three);
       fits = λ z. omega (arith, first .far f, second .far g, second .inside g, length-append (headOf s .values) (rowsIn s .values));
     }
-  where
-    join : (vs d e : List ℕ) → length d ≡ 3 → sets (sets vs 0 d) 3 e ≡ sets vs 0 (d ++ e)
-    join vs d e three = let place : 3 ≡ 0 + length d = omega arith in rw place (sets-more vs 0 d e)
 
 -- ---- an input that is not refused
 
@@ -186,7 +181,7 @@ module _ (s : List ℕ) (room : ℕ) (vs vs′ : List ℕ) (a : Answer) (tests :
 
   whole : vs′ ≡ headOf s .values ++ (rowsIn s .values ++ drop (length (headOf s .values ++ rowsIn s .values)) vs)
   whole =
-      tests .stored z ∙ stored-front vs (headOf s .values ++ rowsIn s .values) (omega (arith, tests .fits z))
+      tests .stored z ∙ sets-front vs (headOf s .values ++ rowsIn s .values) (omega (arith, tests .fits z))
       ∙ append-assoc (headOf s .values) (rowsIn s .values) (drop (length (headOf s .values ++ rowsIn s .values)) vs)
 
   pub input-value : (k : ℕ) → k < 3 → getD vs′ k 0 ≡ getD (headOf s .values) k 0

@@ -1,6 +1,5 @@
 -- Reading values one after the other.
 --   Going                        the values read so far stand in the buffer, the others are still to come; going-start, going-on, going-end
---   before-none, before-join     values before values
 --   fields-next, fields-broken   one field more, or none
 --   fields-past                  no field more
 --   line-read, line-letter, line-fields, line-feed    a line, or none
@@ -24,7 +23,7 @@ use Rattle.text.specs.Lines.{feed}
 use Rattle.text.specs.Reading.{Values, valued, noValues, before, starts, fieldOf, fieldsOf, ended, lineOf, rowsOf}
 use Rattle.text.specs.Inputs.{headOf}
 use Rattle.text.specs.Steps.{noMark, Reads, Stores}
-use Rattle.text.proofs.Runs.{sets-more}
+use Rattle.text.proofs.Runs.{sets-more, sets-join}
 use Rattle.text.proofs.Readings.{drop-past, drop-step, behind-one}
 
 -- of the values m, those so far stand in vs′ from entry `from` on, i of them, and `left` is still to come
@@ -167,14 +166,11 @@ module _ (s vs vs′ : List ℕ) (r : Mark) (first : Stores (lineOf 68 widest 1 
       let values = ap (λ (m : Values). m .values) w in
       record {
         found = second .found ∙ sym (ap (λ (m : Values). m .found) w);
-        stored = λ g. second .stored g ∙ rw (first .stored f) (join vs d e one) ∙ ap (sets vs 0) (sym values);
+        stored = λ g. second .stored g ∙ rw (first .stored f) (sets-join vs d e 1 one) ∙ ap (sets vs 0) (sym values);
         rest = λ g. second .rest g ∙ sym (ap (λ (m : Values). m .rest) w);
         far = λ g. omega (arith, first .far f, second .far g, ap length values ∙ length-append d e);
         inside = λ g. second .inside g;
       }
-    where
-      join : (vs d e : List ℕ) → length d ≡ 1 → sets (sets vs 0 d) 1 e ≡ sets vs 0 (d ++ e)
-      join vs d e one = let place : 1 ≡ 0 + length d = omega arith in rw place (sets-more vs 0 d e)
 
 -- ---- rows
 

@@ -1,9 +1,9 @@
 -- What is printed of a line.
 --   signed-below, signed-above   a line number below 0, and one that is not
---   title-put, title-most        the parts of the `L` line, put one behind the other; how long it is
---   stretches-most               how long the `Z` lines are
---   stretches-cons               the `Z` lines, with the first apart
---   report-put, report-fits      the `L` line and the `Z` lines; they have room
+--   title-put, title-length, title-most    the parts of the `L` line, put one behind the other; how long it is
+--   stretches-cons, stretches-none         the `Z` lines, with the first apart; none
+--   report-put, report-length, report-fits the `L` line and the `Z` lines; how long they are; they have room
+--   puts-as                      the same text by another name
 --   prints-done, prints-none     a text put at the front, or none
 --   printable                    what the test of a line says
 -- Document 01's example of the program stretches is computed at the end. Assumes nothing.

@@ -1,5 +1,6 @@
 -- Runs of stores, and lines of text.
 --   sets-one, sets-more      a run of stores with one more at its end; one run after the other
+--   sets-join, sets-front    the same for runs from the first entry on; such a run stands at the front
 --   puts-none, puts-one      no byte put, one byte put
 --   puts-join                one text put behind another
 --   Left                     what is left to put of a text, where a part of it stands; left-start, left-more, left-end, left-room
@@ -17,7 +18,8 @@ use native.Mathlib.Nat.{add-zero, add-suc, suc-add, le-of-eq}
 use native.Mathlib.Numerals.{add-one}
 use native.Mathlib.Omega.{arith}
 use lib.ListN.{length, set, getD, drop, length-append}
-use lib.Seq.{sets, drop-cons, drop-length}
+use lib.Seq.{sets, sets-eq, drop-cons, drop-length}
+use Rattle.lists.specs.Stores.{front}
 use Rattle.lists.specs.Tables.{each}
 use Rattle.text.specs.Decimal.{decimal}
 use Rattle.text.specs.Lines.{tab, fieldsText, Puts}
@@ -33,6 +35,12 @@ pub sets-more : (l : List ℕ) (i : ℕ) (xs ys : List ℕ) → sets (sets l i x
 sets-more l i [] ys = ap (λ (k : ℕ). sets l k ys) (add-zero i)
 sets-more l i (x ∷ xs) ys =
     ap (λ (k : ℕ). sets (sets (set l i x) (suc i) xs) k ys) (add-suc i (length xs) ∙ sym (suc-add i (length xs))) ∙ sets-more (set l i x) (suc i) xs ys
+
+pub sets-join : (l xs ys : List ℕ) (n : ℕ) → length xs ≡ n → sets (sets l 0 xs) n ys ≡ sets l 0 (xs ++ ys)
+sets-join l xs ys n e = let place : n ≡ 0 + length xs = omega arith in rw place (sets-more l 0 xs ys)
+
+pub sets-front : (l xs : List ℕ) → length xs ≤ length l → sets l 0 xs ≡ front xs l
+sets-front l xs fit = let same : 0 + length xs ≡ length xs = omega arith in sets-eq xs l 0 (omega arith) ∙ ap (λ (n : ℕ). xs ++ drop n l) same
 
 pub puts-none : (d : List ℕ) (at : ℕ) → Puts d at [] d at
 puts-none d at = record { next = sym (add-zero at); wrote = refl }

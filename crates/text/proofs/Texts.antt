@@ -7,9 +7,7 @@
 use mathlib.Core.Path.{_≡_, refl, ap, _∙_}
 use mathlib.Core.List.{List, [], _∷_, _++_}
 use Prim.Native.Nat.{ℕ, _+_, _-_, _≤_}
-use native.Mathlib.Omega.{arith}
-use lib.ListN.{length, drop, length-append}
-use lib.Seq.{sets-eq}
+use lib.ListN.{length, length-append}
 use borrow.Author.Tests.{ltb-false}
 use Rattle.lists.specs.Stores.{front}
 use Rattle.lists.specs.Tables as tables
@@ -20,7 +18,7 @@ use Rattle.answer.proofs.Rules.{kept, outside-not}
 use Rattle.text.specs.Decimal.{digits}
 use Rattle.text.specs.Lines.{fieldsText, lineText, Puts}
 use Rattle.text.specs.Sums.{headFields, restFields, binsText, sumsText, textRules}
-use Rattle.text.proofs.Runs.{puts-join}
+use Rattle.text.proofs.Runs.{puts-join, sets-front}
 
 module _ (d : ℕ) (s : List ℕ) where
   pub sums-length : length (sumsText d s) ≡ length (lineText 71 (headFields d s)) + (length (binsText s (length s - 1)) + length (lineText 84 (restFields s)))
@@ -41,9 +39,7 @@ module _ (d : ℕ) (s : List ℕ) where
       (outside-not 2 (longest + 1) (length s) (k .1 .0) .0, ltb-false room (length (sumsText d s)) (k .1 .1 .0))
 
 pub put-front : {t bs t′ : List ℕ} {r : ℕ} → Puts t 0 bs t′ r → length bs ≤ length t → t′ ≡ front bs t
-put-front {t} {bs} p fit =
-    let same : 0 + length bs ≡ length bs = omega arith in
-    p .wrote ∙ sets-eq bs t 0 (omega arith) ∙ ap (λ (n : ℕ). bs ++ drop n t) same
+put-front {t} {bs} p fit = p .wrote ∙ sets-front t bs fit
 
 -- 'it prints' G 0 3, B 1 2, B 2 4, B 3 3, T 10
 example : sumsText 0 (2 ∷ 4 ∷ 3 ∷ 10 ∷ []) ≡

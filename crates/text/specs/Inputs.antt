@@ -1,5 +1,7 @@
 -- The programs' input (document 01, 'The two programs'), and the call `read_input`.
 --   frameText d w h ps     the input text of a frame: direction number, width, height and pixels, row by row
+--   rowsText h w ps        its rows
+--   largest                the most bytes of an input
 --   headOf s               the first two lines of a text: direction number, width and height
 --   directionIn s, widthIn s, heightIn s    the three
 --   rowsIn s               the rows that follow them

@@ -9,7 +9,9 @@
 --   fieldsOf most n s      n fields
 --   lineOf b most n s      a line: the letter b, n fields and the line feed
 --   rowsOf h w s           h lines of w pixels, and nothing after them
--- Laws: text/proofs/Readings (what is found is there as text, and what is there as text is found).
+--   before vs r            the numbers vs before those of r
+--   atMost, ended          a number that is in its range; numbers that a line feed follows
+-- Laws: text/proofs/Readings, Goings (place by place), Inputs (what is found is there as text, and what is there as text is found).
 use mathlib.Core.Bool.{Bool, true, false, cond, _&&_}
 use mathlib.Core.List.{List, [], _∷_, _++_}
 use Prim.Native.Nat.{ℕ, zero, suc, _+_, _-_, _*_}
