@@ -3,6 +3,7 @@
 --   number-found, fields-found, line-found, rows-found                 what a text starts with is found
 --   frame-read       a text in which the first two lines and the rows are found is the text of the frame that is read
 --   head-found, frame-written    in the text of a frame both are found, and the frame is read from it
+--   accepted-text, text-accepted the texts that no rule refuses are those of the frames whose numbers are in their ranges
 -- Document 01's example is computed at the end. Assumes nothing.
 use mathlib.Core.Path.{_≡_, refl, sym, ap, ap₂, _∙_}
 use mathlib.Core.Bool.{Bool, true, false, cond, _&&_, false≢true}
@@ -14,16 +15,19 @@ use native.Mathlib.Omega.{arith}
 use lib.Dec.{ltb, leb, eqb}
 use lib.ListN.{length, getD, take, drop, take-append-drop, length-drop}
 use lib.Seq.{take-at, drop-at, length-take-le}
-use borrow.Author.Tests.{lt-ltb, le-leb, eqb-true, eq-eqb}
-use Rattle.answer.specs.Limits.{widest}
+use borrow.Author.Tests.{lt-ltb, le-leb, eqb-true, eq-eqb, not-false}
+use Rattle.answer.specs.Limits.{longest, widest}
+use Rattle.answer.specs.Rules.{answer, done, outside}
+use Rattle.answer.proofs.Rules.{kept, outside-not}
 use Rattle.lists.proofs.Cases.{less-or-not, both, both-left, both-right}
 use Rattle.text.specs.Decimal.{digits, decimal}
 use Rattle.text.specs.Lines.{tab, feed, fieldsText, lineText}
 use Rattle.text.specs.Reading.{isDigit, goesOn, Numeral, numeral, noNumeral, numberOn, numberOf, starts, atMost, fieldOf, Values, valued, noValues, before, fieldsOf, ended, lineOf, rowsOf}
-use Rattle.text.specs.Inputs.{rowsText, frameText, headOf, directionIn, widthIn, heightIn, rowsIn}
+use Rattle.text.specs.Inputs.{largest, rowsText, frameText, headOf, directionIn, widthIn, heightIn, rowsIn, inputRules}
 use Rattle.text.proofs.Decimals.{decimal-one, decimal-more}
 use Rattle.text.proofs.Readings.{digit-facts, goes-facts}
 use Rattle.text.proofs.Goings.{line-many}
+use Rattle.text.proofs.Frames.{accepted}
 
 -- ---- numbers
 
@@ -284,6 +288,30 @@ module _ (d w h : ℕ) (ps : List ℕ) (numbered : d ≤ widest) (wide : w ≤ w
 
   pub frame-written : length ps ≡ h * w → Within 255 ps → rowsIn (frameText d w h ps) ≡ valued ps []
   frame-written many dim = rw head-found (rows-found h w ps many dim)
+
+-- ---- what is accepted
+
+-- an input that no rule refuses is the text of the frame that is read
+pub accepted-text : (s : List ℕ) (room : ℕ) → answer (inputRules s room) 0 .number ≡ 0 → s ≡ frameText (directionIn s) (widthIn s) (heightIn s) (rowsIn s .values)
+accepted-text s room z =
+    let k = kept (inputRules s room) 0 refl z in
+    frame-read s (not-false (headOf s .found) (k .1 .0)) (not-false (rowsIn s .found) (k .1 .1 .1 .1 .1 .0))
+
+-- the text of a frame whose numbers are in their ranges is refused by no rule
+pub text-accepted : (d w h : ℕ) (ps : List ℕ) (room : ℕ) → d ≤ 15 → outside 1 longest w ≡ false → outside 1 longest h ≡ false → length ps ≡ h * w → Within 255 ps
+    → length (frameText d w h ps) ≤ largest → w * h ≤ room → answer (inputRules (frameText d w h ps) room) 0 ≡ done 0
+text-accepted d w h ps room numbered wide high many dim size fit =
+    let width = outside-not 1 longest w wide in
+    let height = outside-not 1 longest h high in
+    let head = head-found d w h ps (omega arith) (omega (arith, width .1)) (omega (arith, height .1)) in
+    let rows = frame-written d w h ps (omega arith) (omega (arith, width .1)) (omega (arith, height .1)) many dim in
+    let values = ap (λ (r : Values). r .values) head in
+    let direction-is = ap (λ (l : List ℕ). getD l 0 0) values in
+    let width-is = ap (λ (l : List ℕ). getD l 1 0) values in
+    let height-is = ap (λ (l : List ℕ). getD l 2 0) values in
+    let area = ap₂ (λ (a b : ℕ). a * b) width-is height-is in
+    accepted (frameText d w h ps) room size (ap (λ (r : Values). r .found) head) (ap (outside 1 longest) width-is ∙ wide) (ap (outside 1 longest) height-is ∙ high)
+    (omega (arith, direction-is)) (ap (λ (r : Values). r .found) rows) (omega (arith, area))
 
 -- the input of document 01's example
 example : frameText 0 5 1 (3 ∷ 5 ∷ 5 ∷ 2 ∷ 4 ∷ []) ≡
