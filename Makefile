@@ -1,5 +1,5 @@
-# make test    the gate: the layout of every file, the referee's cases, calls from a host, the host itself, then every proof, must-fail edit and program from nothing (rt ci)
-# make demo    runs the library on the marked examples of its specification and on a made picture of the chute, and shows what comes out (docs/demo.png)
+# make test    the gate: the layout of every file, the referee's cases, calls from a host, the host itself, the programs, then every proof, must-fail edit and program from nothing (rt ci)
+# make demo    runs the library on the marked examples of its specification, both programs on a small frame, and the host's calls on a made picture of the chute (docs/demo.png)
 # make host    builds the host that opens PGM pictures, target/host/fibre, and the maker of a chute picture, target/host/chute
 # make bench   times it beside its peers, natively, in one run (bench/run --record writes docs/BENCH.md and its plot)
 
@@ -11,12 +11,19 @@ test:
 	@check/listing
 	@check/run
 	@check/host
+	@check/programs
 	@rt ci
 
 demo:
-	@mkdir -p target && rt check marked > target/demo.log 2>&1 || { tail -n 5 target/demo.log; exit 1; }
+	@mkdir -p target && rt check marked stretches sums > target/demo.log 2>&1 || { tail -n 5 target/demo.log; exit 1; }
 	@echo "The line 3 5 5 2 4: example, refusal number, figure, values"
 	@tools/run marked
+	@echo "The programs' input: direction number, width and height, rows"
+	@cat crates/sums/stdin
+	@echo "stretches: line number and pixel count; start, end, level, base"
+	@tools/run stretches < crates/stretches/stdin
+	@echo "sums: direction number and bins; length and sum of each bin; rest"
+	@tools/run sums < crates/sums/stdin
 	@host/build target/host chute
 	@host/build target/host demo
 	@target/host/chute 3 > target/host/chute.pgm

@@ -1,0 +1,108 @@
+-- What is printed of a line.
+--   signed-below, signed-above   a line number below 0, and one that is not
+--   title-put, title-length, title-most    the parts of the `L` line, put one behind the other; how long it is
+--   stretches-cons, stretches-none         the `Z` lines, with the first apart; none
+--   report-put, report-length, report-fits the `L` line and the `Z` lines; how long they are; they have room
+--   puts-as                      the same text by another name
+--   prints-done, prints-none     a text put at the front, or none
+--   printable                    what the test of a line says
+-- Document 01's example of the program stretches is computed at the end. Assumes nothing.
+use mathlib.Core.Path.{_≡_, refl, _∙_}
+use mathlib.Core.Bool.{Bool, true, false, cond, _&&_}
+use mathlib.Core.List.{List, [], _∷_, _++_}
+use Prim.Native.Nat.{ℕ, _+_, _*_, _≤_, zero-le}
+use native.Mathlib.Omega.{arith}
+use lib.Dec.{leb}
+use lib.IntN.{ℤ, pos, natAbs}
+use lib.ListN.{length, length-append}
+use lib.Signed.{ltZ}
+use borrow.Author.Tests.{leb-true}
+use Rattle.lists.specs.Tables as tables
+use Rattle.lists.specs.Extremes as extremes
+use Rattle.lists.proofs.Cases.{both-left, both-right}
+use Rattle.answer.specs.Limits.{longest}
+use Rattle.stretch.specs.declared.Stretch.{Stretch}
+use Rattle.stretch.specs.Stretches as bright
+use Rattle.stretch.proofs.Counting.{stretches-few}
+use Rattle.text.specs.Decimal.{digits, decimal}
+use Rattle.text.specs.Lines.{tab, feed, fieldsText, lineText, Puts}
+use Rattle.text.specs.Stretches.{signedText, titleText, stretchFields, stretchesText, lineReport, isPrintable, Prints}
+use Rattle.text.proofs.Decimals.{decimal-most}
+use Rattle.text.proofs.Runs.{puts-join, fields-most}
+use Rattle.text.proofs.Texts.{put-front}
+
+signed-most : (n : ℕ) (b : Bool) → length (cond b (45 ∷ decimal n) (decimal n)) ≤ 21
+signed-most n true = omega (arith, decimal-most n)
+signed-most n false = omega (arith, decimal-most n)
+
+module _ (z : ℤ) (n : ℕ) (size : n ≡ natAbs z) where
+  pub signed-below : ltZ z (pos 0) ≡ true → signedText z ≡ 45 ∷ decimal n
+  signed-below e = rw (e, size)
+
+  pub signed-above : ltZ z (pos 0) ≡ false → signedText z ≡ decimal n
+  signed-above e = rw (e, size)
+
+module _ (z : ℤ) (n : ℕ) where
+  pub title-length : length (titleText z n) ≡ 3 + length (signedText z) + length (tab ∷ decimal n)
+  unfolding titleText
+  title-length =
+      length-append (76 ∷ tab ∷ []) (signedText z ++ ((tab ∷ decimal n) ++ (feed ∷ [])))
+      ∙ omega (arith, length-append (signedText z) ((tab ∷ decimal n) ++ (feed ∷ [])), length-append (tab ∷ decimal n) (feed ∷ []))
+
+  pub title-most : length (titleText z n) ≤ 64
+  title-most = omega (arith, title-length, signed-most (natAbs z) (ltZ z (pos 0)), decimal-most n)
+
+  pub title-put : {d d₁ d₂ d₃ d₄ : List ℕ} {r₁ r₂ r₃ r₄ : ℕ} → Puts d 0 (76 ∷ tab ∷ []) d₁ r₁ → Puts d₁ r₁ (signedText z) d₂ r₂ → Puts d₂ r₂ (tab ∷ decimal n) d₃ r₃
+      → Puts d₃ r₃ (feed ∷ []) d₄ r₄ → Puts d 0 (titleText z n) d₄ r₄
+  unfolding titleText
+  title-put p q r s = puts-join p (puts-join q (puts-join r s))
+
+stretch-most : (ss : List Stretch) → length (stretchesText ss) ≤ 86 * length ss
+unfolding stretchesText
+stretch-most [] = zero-le
+stretch-most (s ∷ ss) =
+    omega (arith, length-append (lineText 90 (stretchFields s)) (stretchesText ss), length-append (fieldsText (stretchFields s)) (feed ∷ []), fields-most (stretchFields s), stretch-most ss)
+
+pub stretches-cons : (s : Stretch) (ss : List Stretch) → stretchesText (s ∷ ss) ≡ lineText 90 (stretchFields s) ++ stretchesText ss
+unfolding stretchesText
+stretches-cons s ss = refl
+
+pub stretches-none : stretchesText [] ≡ []
+unfolding stretchesText
+stretches-none = refl
+
+module _ (z : ℤ) (f : List ℕ) where
+  pub report-length : length (lineReport z f) ≡ length (titleText z (length f)) + length (stretchesText (bright.stretches f))
+  unfolding lineReport
+  report-length = length-append (titleText z (length f)) (stretchesText (bright.stretches f))
+
+  pub report-put : {d d₁ d₂ : List ℕ} {r₁ r₂ : ℕ} → Puts d 0 (titleText z (length f)) d₁ r₁ → Puts d₁ r₁ (stretchesText (bright.stretches f)) d₂ r₂ → Puts d 0 (lineReport z f) d₂ r₂
+  unfolding lineReport
+  report-put p q = puts-join p q
+
+  pub report-fits : length (lineReport z f) ≤ 64 + 86 * length f
+  report-fits = omega (arith, report-length, title-most z (length f), stretch-most (bright.stretches f), stretches-few f)
+
+pub puts-as : {d t t′ d′ : List ℕ} {at r : ℕ} → Puts d at t d′ r → t′ ≡ t → Puts d at t′ d′ r
+puts-as {d} {t} {t′} {d′} {at} {r} p e = rw e p
+
+pub prints-done : {ok : Bool} {t dst dst′ : List ℕ} {r : ℕ} → ok ≡ true → Puts dst 0 t dst′ r → length t ≤ length dst → Prints ok t dst dst′ r
+prints-done {ok} {t} {dst} {dst′} {r} e p fit = rw e (record { bytes = omega (arith, p .next); written = put-front p fit })
+
+pub prints-none : {ok : Bool} (t dst : List ℕ) → ok ≡ false → Prints ok t dst dst 0
+prints-none t dst e = rw e (record { bytes = refl; written = refl })
+
+pub printable : (n spare room : ℕ) → isPrintable n spare room ≡ true → (n ≤ longest) × (4 * n ≤ spare) × (64 + 86 * n ≤ room)
+printable n spare room e =
+    let more = both-right (leb n longest) (leb (4 * n) spare && leb (64 + 86 * n) room) e in
+    (leb-true n longest (both-left (leb n longest) (leb (4 * n) spare && leb (64 + 86 * n) room) e), leb-true (4 * n) spare (both-left (leb (4 * n) spare) (leb (64 + 86 * n) room) more), leb-true (64 + 86 * n) room (both-right (leb (4 * n) spare) (leb (64 + 86 * n) room) more))
+
+-- 'it prints' L 0 5, Z 1 3 5 3, Z 0 3 3 2, Z 4 5 4 2, Z 0 5 2 0
+example : lineReport (pos 0) (3 ∷ 5 ∷ 5 ∷ 2 ∷ 4 ∷ []) ≡
+    76 ∷ 9 ∷ 48 ∷ 9 ∷ 53 ∷ 10
+    ∷ 90 ∷ 9 ∷ 49 ∷ 9 ∷ 51 ∷ 9 ∷ 53 ∷ 9 ∷ 51 ∷ 10
+    ∷ 90 ∷ 9 ∷ 48 ∷ 9 ∷ 51 ∷ 9 ∷ 51 ∷ 9 ∷ 50 ∷ 10
+    ∷ 90 ∷ 9 ∷ 52 ∷ 9 ∷ 53 ∷ 9 ∷ 52 ∷ 9 ∷ 50 ∷ 10
+    ∷ 90 ∷ 9 ∷ 48 ∷ 9 ∷ 53 ∷ 9 ∷ 50 ∷ 9 ∷ 48 ∷ 10 ∷ []
+unfolding lineReport titleText stretchesText fieldsText digits bright.stretches bright.endingAt bright.isStretch bright.stretchOf bright.levelOf extremes.least extremes.greatest tables.each
+example = refl

@@ -1,0 +1,82 @@
+-- The sign, where there is one, and the digits.
+use mathlib.Core.Path.{ap, _∙_}
+use native.Mathlib.Omega.{arith}
+use lib.IntN.{natAbs}
+use lib.ListN.{length, length-set}
+use mir.Facts.{toZ-ofZ}
+use Rattle.text.proofs.Runs.{puts-one, puts-join}
+use Rattle.text.proofs.Reports.{signed-below, signed-above, puts-as}
+use borrow.Author.Needs.{needs}
+use Rattle.text.proofs.stretches.put_signed.Statement.{statement}
+use Rattle.text.proofs.stretches.put_signed.Tie as tie
+
+size-requires : tie.Need-size-requires
+size-requires c κs = search needs
+
+slice-write-dst : tie.Need-slice-write-dst
+slice-write-dst c =
+    let z = c .before .before .before .args .z in
+    let dst = c .before .before .before .args .dst .now in
+    let at = c .before .before .before .args .at in
+    let bits = toZ-ofZ (c .before .before .before .fits .z) in
+    let text = signed-below z (c .before .size .result) (c .before .size .ensures ∙ ap natAbs bits) (rw bits at (c .if1 .taken)) in
+    omega (arith, ap length text, c .before .before .before .pre)
+
+add-put-number : tie.Need-add-put-number
+add-put-number c = search needs
+
+put-number-requires : tie.Need-put-number-requires
+put-number-requires c κs =
+    let z = c .before .before .before .before .args .z in
+    let dst = c .before .before .before .before .args .dst .now in
+    let at = c .before .before .before .before .args .at in
+    let bits = toZ-ofZ (c .before .before .before .before .fits .z) in
+    let text = signed-below z (c .before .before .size .result) (c .before .before .size .ensures ∙ ap natAbs bits) (rw bits at (c .before .if1 .taken)) in
+    omega (arith, ap length text, c .before .before .before .before .pre, length-set dst at 45)
+
+same-length : tie.Need-same-length
+same-length c = omega (arith, length-set (c .before .before .before .before .before .before .before .args .dst .now) (c .before .before .before .before .before .before .before .args .at) 45, c .before .before .put-number .kept .0)
+
+returns : tie.Need-returns
+returns c =
+    let z = c .before .before .before .before .before .before .before .args .z in
+    let dst = c .before .before .before .before .before .before .before .args .dst .now in
+    let at = c .before .before .before .before .before .before .before .args .at in
+    let bits = toZ-ofZ (c .before .before .before .before .before .before .before .fits .z) in
+    let text = signed-below z (c .before .before .before .before .before .size .result) (c .before .before .before .before .before .size .ensures ∙ ap natAbs bits) (rw bits at (c .before .before .before .before .if1 .taken)) in
+    puts-as (puts-join (puts-one dst at 45) (c .before .before .put-number .ensures)) text
+
+put-number-requires-2 : tie.Need-put-number-requires-2
+put-number-requires-2 c κs =
+    let z = c .before .before .before .before .args .z in
+    let dst = c .before .before .before .before .args .dst .now in
+    let at = c .before .before .before .before .args .at in
+    let bits = toZ-ofZ (c .before .before .before .before .fits .z) in
+    let text = signed-above z (c .before .before .size .result) (c .before .before .size .ensures ∙ ap natAbs bits) (rw bits at (c .before .if1 .left)) in
+    omega (arith, ap length text, c .before .before .before .before .pre)
+
+same-length-2 : tie.Need-same-length-2
+same-length-2 c = search needs
+
+returns-2 : tie.Need-returns-2
+returns-2 c =
+    let z = c .before .before .before .before .before .before .before .args .z in
+    let dst = c .before .before .before .before .before .before .before .args .dst .now in
+    let at = c .before .before .before .before .before .before .before .args .at in
+    let bits = toZ-ofZ (c .before .before .before .before .before .before .before .fits .z) in
+    let text = signed-above z (c .before .before .before .before .before .size .result) (c .before .before .before .before .before .size .ensures ∙ ap natAbs bits) (rw bits at (c .before .before .before .before .if1 .left)) in
+    puts-as (c .before .before .put-number2 .ensures) text
+
+pub put-signed-spec : {M : Type 1} → statement M
+put-signed-spec =
+    tie.close
+    (tie.spec
+    size-requires
+    slice-write-dst
+    add-put-number
+    put-number-requires
+    same-length
+    returns
+    put-number-requires-2
+    same-length-2
+    returns-2)

@@ -1,0 +1,61 @@
+-- What the program stretches prints of a line, and what both programs print of a refusal (document 01, 'The two programs').
+--   signedText z           a line number as text
+--   titleText z n          the `L` line of the line z, which has n pixels
+--   stretchFields s        the four numbers of a stretch
+--   stretchesText ss       the `Z` lines of the stretches ss
+--   lineReport z f         the text of the line z, whose pixels are f
+--   refusalText n          the text of the refusal n
+--   isPrintable n spare room    a line of n pixels, spare bytes of scratch and room bytes of destination that the call takes
+--   Prints ok t dst dst′ r      the text t stands at the front of dst′ and r is how long it is, where ok holds; else nothing does
+-- Laws: text/proofs/Reports.
+use mathlib.Core.Path.{_≡_}
+use mathlib.Core.Bool.{Bool, false, cond, _&&_}
+use mathlib.Core.List.{List, [], _∷_, _++_}
+use Prim.Native.Nat.{ℕ, _+_, _*_}
+use lib.Dec.{leb}
+use lib.IntN.{ℤ, pos, natAbs}
+use lib.ListN.{length}
+use lib.Signed.{ltZ}
+use Rattle.lists.specs.Stores.{front}
+use Rattle.answer.specs.Limits.{longest}
+use Rattle.stretch.specs.declared.Stretch.{Stretch}
+use Rattle.stretch.specs.Stretches.{stretches}
+use Rattle.text.specs.Decimal.{decimal}
+use Rattle.text.specs.Lines.{tab, feed, lineText}
+
+-- 'only a line number may have a minus sign'
+abbrev pub signedText : ℤ → List ℕ
+signedText z = cond (ltZ z (pos 0)) (45 ∷ decimal (natAbs z)) (decimal (natAbs z))
+
+-- '`L`, line number, pixel count'
+unfoldable pub titleText : ℤ → ℕ → List ℕ
+titleText z n = (76 ∷ tab ∷ []) ++ (signedText z ++ ((tab ∷ decimal n) ++ (feed ∷ [])))
+
+-- 'its `Z` lines: start, end, level, base'
+abbrev pub stretchFields : Stretch → List ℕ
+stretchFields s = s .start ∷ s .end ∷ s .level ∷ s .base ∷ []
+
+unfoldable pub stretchesText : List Stretch → List ℕ
+stretchesText [] = []
+stretchesText (s ∷ ss) = lineText 90 (stretchFields s) ++ stretchesText ss
+
+unfoldable pub lineReport : ℤ → List ℕ → List ℕ
+lineReport z f = titleText z (length f) ++ stretchesText (stretches f)
+
+-- 'A refusal prints `E` and the number only.'
+abbrev pub refusalText : ℕ → List ℕ
+refusalText n = lineText 69 (n ∷ [])
+
+-- a line has no more stretches than pixels, and no `Z` line has more than 86 bytes
+abbrev pub isPrintable : ℕ → ℕ → ℕ → Bool
+isPrintable n spare room = leb n longest && (leb (4 * n) spare && leb (64 + 86 * n) room)
+
+pub record Prints (ok : Bool) (t dst dst′ : List ℕ) (r : ℕ) : Type 0 where
+  pub bytes : r ≡ cond ok (length t) 0
+  pub written : dst′ ≡ cond ok (front t dst) dst
+
+-- What scratch holds after a line is printed is left open, its length apart.
+pub record PrintsLine (z : ℤ) (f dst dst′ scratch scratch′ : List ℕ) (r : ℕ) : Type 0 where
+  pub text : Prints (isPrintable (length f) (length scratch) (length dst)) (lineReport z f) dst dst′ r
+  pub scratch-kept : isPrintable (length f) (length scratch) (length dst) ≡ false → scratch′ ≡ scratch
+  pub scratch-length : length scratch′ ≡ length scratch
