@@ -1,5 +1,6 @@
 -- A pass over a row whose lines bend, in place: what it reads is as it was where the pass began. `met` is its new value, whether `op` takes the lesser or the greater.
 --   met op m g at near far x      op of byte x of g and of the byte of two rows that its mark names
+--   one-of                        one of two numbers
 --   bent-is                       the byte that a mark names
 --   met-read                      the value that a turn makes of what it reads
 --   met-ahead, met-behind         what a pass has yet to read is as it was: upward, and downward
@@ -7,10 +8,10 @@
 --   met-join, met-join-before     one stretch and another, each in terms of what it found
 -- Assumes nothing.
 use mathlib.Core.Path.{_≡_, refl, sym, ap, ap₂, _∙_}
-use mathlib.Core.Bool.{cond}
+use mathlib.Core.Bool.{Bool, true, false, cond}
 use mathlib.Core.List.{List}
 use mathlib.Core.Logic.{⊎-elim}
-use Prim.Native.Nat.{ℕ, _+_, _-_, _≤_, _<_}
+use Prim.Native.Nat.{ℕ, _+_, _-_, _≤_, _<_, max}
 use native.Mathlib.Nat.{le-refl}
 use native.Mathlib.Omega.{arith}
 use lib.Dec.{eqb}
@@ -21,6 +22,11 @@ use Rattle.rows.specs.Passes.{bent, Ahead, Behind}
 
 abbrev pub met : (ℕ → ℕ → ℕ) → List ℕ → List ℕ → ℕ → ℕ → ℕ → ℕ → ℕ
 met op m g at near far x = op (getD g x 0) (bent m g near far (x - at))
+
+-- of two numbers, one of them taken as 0
+pub one-of : (b : Bool) (x y : ℕ) → max (cond b x 0) (cond b 0 y) ≡ cond b x y
+one-of true x y = omega arith
+one-of false x y = omega arith
 
 pub bent-is : (m g : List ℕ) (near far j : ℕ) → cond (eqb (getD m j 0) 0) (getD g (near + j) 0) (getD g (far + j) 0) ≡ bent m g near far j
 unfolding bent

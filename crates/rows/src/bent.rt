@@ -20,11 +20,23 @@ fn brighter(a: u8, b: u8) -> u8
     if a < b { b } else { a }
 }
 
-// Of two bytes the one that the mark m names.
+fn unless_marked(m: u8, x: u8) -> u8
+    ensures { λ r. ⌜ r ≡ cond (eqb m 0) x 0 ⌝ }
+{
+    if m == 0 { x } else { 0 }
+}
+
+fn if_marked(m: u8, x: u8) -> u8
+    ensures { λ r. ⌜ r ≡ cond (eqb m 0) 0 x ⌝ }
+{
+    if m == 0 { 0 } else { x }
+}
+
+// Of two bytes the one that the mark m names. Marks follow no pattern that a processor could foresee, so both bytes are taken, one of them as 0, and nothing branches.
 fn either(m: u8, near: u8, far: u8) -> u8
     ensures { λ r. ⌜ r ≡ cond (eqb m 0) near far ⌝ }
 {
-    if m == 0 { near } else { far }
+    brighter(unless_marked(m, near), if_marked(m, far))
 }
 
 // The darker of each byte of a block and the byte that its line goes on to, for the sixteen from byte i of the three rows on.
@@ -107,6 +119,7 @@ fn brighter_bent_at(
 }
 
 // Each of the `count` bytes from `at` on becomes the brighter of itself and the byte that its line comes from; downward, so that what it reads is as it was.
+// The blocks are counted, and do not hand their place on to what is left: else every step of theirs would carry the places of both loops.
 pub(crate) fn brighten_bent(
     buf: &mut [u8],
     bends: &[u8],
@@ -118,12 +131,15 @@ pub(crate) fn brighten_bent(
     requires { ⌜ (at + count ≤ length (now buf)) × (near + count ≤ length (now buf)) × (far + count ≤ length (now buf)) × (count ≤ length (now bends)) × Behind at near count × Behind at far count ⌝ }
     ensures { λ _. ⌜ Filled (now (buf .entry)) (now (buf .exit)) at (at + count) (λ (x : ℕ). max (getD (now (buf .entry)) x 0) (bent (now (bends .entry)) (now (buf .entry)) near far (x - at))) ⌝ }
 {
-    let mut i = count;
-    while 16 <= i {
-        i -= 16;
+    let rest = count % 16;
+    let mut k = count / 16;
+    while 0 < k {
+        k -= 1;
+        let i = rest + 16 * k;
         let t = brighter_bent_at(buf, bends, i, at, near, far);
         put_sixteen(buf, at + i, t);
     }
+    let mut i = rest;
     while 0 < i {
         i -= 1;
         buf[at + i] = brighter(buf[at + i], either(bends[i], buf[near + i], buf[far + i]));

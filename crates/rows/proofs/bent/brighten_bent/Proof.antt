@@ -1,6 +1,6 @@
 -- Blocks first, then byte by byte, both downward; each loop in terms of the buffer that it found.
-use mathlib.Core.Path.{_∙_}
-use Prim.Native.Nat.{_+_, _-_, _≤_, max}
+use mathlib.Core.Path.{_≡_, _∙_}
+use Prim.Native.Nat.{_+_, _-_, _*_, _%_, _≤_, max}
 use native.Mathlib.Omega.{arith}
 use Rattle.lists.specs.Stores.{Filled}
 use Rattle.lists.proofs.Stores.{filled-none, filled-start, filled-before}
@@ -10,19 +10,28 @@ use Rattle.rows.proofs.bent.brighten_bent.Statement.{statement}
 use Rattle.rows.proofs.bent.brighten_bent.Tie as tie
 
 abbrev Inv-loop : tie.InvT-loop
-Inv-loop buf₀ bends at near far count i₀ buf i = (i ≤ count) × Filled buf₀ buf (at + i) (at + count) (met max bends buf₀ at near far)
+Inv-loop buf₀ bends at near far count rest k₀ buf k = (rest + 16 * k ≤ count) × Filled buf₀ buf (at + (rest + 16 * k)) (at + count) (met max bends buf₀ at near far)
 
 abbrev μ-loop : tie.MeasureT-loop
-μ-loop buf₀ bends at near far count i₀ buf i = i
+μ-loop buf₀ bends at near far count rest k₀ buf k = k
 
 abbrev Inv-loop2 : tie.InvT-loop2
-Inv-loop2 buf₀ bends at near far count i₀ buf i = (i ≤ i₀) × Filled buf₀ buf (at + i) (at + i₀) (met max bends buf₀ at near far)
+Inv-loop2 buf₀ bends at near far count rest k i₀ buf i = (i ≤ rest) × Filled buf₀ buf (at + i) (at + rest) (met max bends buf₀ at near far)
 
 abbrev μ-loop2 : tie.MeasureT-loop2
-μ-loop2 buf₀ bends at near far count i₀ buf i = i
+μ-loop2 buf₀ bends at near far count rest k i₀ buf i = i
 
 loop-holds : tie.Need-loop-holds Inv-loop μ-loop Inv-loop2 μ-loop2
-loop-holds c = (search needs, filled-none _ _ _)
+loop-holds c = (omega arith, filled-start (filled-none _ _ _) (omega arith))
+
+sub-k : tie.Need-sub-k Inv-loop μ-loop Inv-loop2 μ-loop2
+sub-k c = search needs
+
+mul-i : tie.Need-mul-i Inv-loop μ-loop Inv-loop2 μ-loop2
+mul-i c = search needs
+
+add-i : tie.Need-add-i Inv-loop μ-loop Inv-loop2 μ-loop2
+add-i c = search needs
 
 brighter-bent-at-requires : tie.Need-brighter-bent-at-requires Inv-loop μ-loop Inv-loop2 μ-loop2
 brighter-bent-at-requires c κs = search needs
@@ -42,8 +51,9 @@ loop-again c =
     let p = c .before .before .before .before .before .before .before .before .before .before .pre in
     let at = c .before .before .before .before .before .before .before .loop in
     let more = c .before .before .before .before .before .before .loop-test .taken in
+    let rest = a .count % 16 in
     let block = c .before .before .before .before .brighter-bent-at in
-    (omega (arith, at .inv .0), met-block-before max (a .bends .now) (a .at) (a .near) (a .far) (a .count) (p .4) (p .5) (block .result) (at .i - 16) (at .inv .1) (omega (arith, more)) (omega (arith, at .inv .0)) (block .ensures) (c .before .before .put-sixteen .ensures))
+    (omega (arith, at .inv .0), met-block-before max (a .bends .now) (a .at) (a .near) (a .far) (a .count) (p .4) (p .5) (block .result) (rest + 16 * (at .k - 1)) (at .inv .1) (omega (arith, more)) (omega (arith, at .inv .0)) (block .ensures) (c .before .before .put-sixteen .ensures))
 
 loop2-holds : tie.Need-loop2-holds Inv-loop μ-loop Inv-loop2 μ-loop2
 loop2-holds c = (search needs, filled-none _ _ _)
@@ -108,7 +118,9 @@ returns : tie.Need-returns Inv-loop μ-loop Inv-loop2 μ-loop2
 returns c =
     let a = c .before .before .before .before .before .before .args in
     let p = c .before .before .before .before .before .before .pre in
-    filled-start (met-join-before max (a .bends .now) (a .at) (a .near) (a .far) (a .count) (p .4) (p .5) (c .before .before .before .loop .inv .1) (c .before .loop2 .inv .1) (omega arith) (omega arith) (omega arith)) (omega arith)
+    let end : a .at + (a .count % 16 + 16 * c .before .before .before .loop .k) ≡ a .at + a .count % 16 = omega (arith, c .before .before .loop-test .left) in
+    let blocks = filled-start (c .before .before .before .loop .inv .1) end in
+    filled-start (met-join-before max (a .bends .now) (a .at) (a .near) (a .far) (a .count) (p .4) (p .5) blocks (c .before .loop2 .inv .1) (omega arith) (omega arith) (omega arith)) (omega arith)
 
 pub brighten-bent-spec : {M : Type 1} → statement M
 brighten-bent-spec =
@@ -119,6 +131,9 @@ brighten-bent-spec =
     Inv-loop2
     μ-loop2
     loop-holds
+    sub-k
+    mul-i
+    add-i
     brighter-bent-at-requires
     add-put-sixteen
     put-sixteen-requires

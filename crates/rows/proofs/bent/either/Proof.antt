@@ -1,13 +1,28 @@
--- By the mark.
-use borrow.Author.Tests.{eq-eqb, ne-eqb}
+-- One of the two bytes is taken as 0.
+use mathlib.Core.Path.{ap₂, _∙_}
+use Prim.Native.Nat.{max}
+use lib.Dec.{eqb}
+use Rattle.rows.proofs.Bents.{one-of}
+use borrow.Author.Needs.{needs}
 use Rattle.rows.proofs.bent.either.Statement.{statement}
 use Rattle.rows.proofs.bent.either.Tie as tie
 
-returns : tie.Need-returns
-returns c = rw (eq-eqb _ _ (c .if1 .taken))
+unless-marked-requires : tie.Need-unless-marked-requires
+unless-marked-requires c κs = search needs
 
-returns-2 : tie.Need-returns-2
-returns-2 c = rw (ne-eqb _ _ (c .if1 .left))
+if-marked-requires : tie.Need-if-marked-requires
+if-marked-requires c κs = search needs
+
+brighter-requires : tie.Need-brighter-requires
+brighter-requires c κs = search needs
+
+returns : tie.Need-returns
+returns c =
+    let a = c .before .before .before .args in
+    c .brighter .ensures
+    ∙ ap₂ max (c .before .before .unless-marked .ensures) (c .before .if-marked .ensures)
+    ∙ one-of (eqb (a .m) 0) (a .near) (a .far)
 
 pub either-spec : {M : Type 1} → statement M
-either-spec = tie.close (tie.spec returns returns-2)
+either-spec =
+    tie.close (tie.spec unless-marked-requires if-marked-requires brighter-requires returns)
