@@ -5,7 +5,7 @@
 --   met-read                      the value that a turn makes of what it reads
 --   met-ahead, met-behind         what a pass has yet to read is as it was: upward, and downward
 --   met-block, met-block-before   a block more, behind the others or before them
---   met-join, met-join-before     one stretch and another, each in terms of what it found
+--   met-last, met-first           a block that was made first and is stored last
 -- Assumes nothing.
 use mathlib.Core.Path.{_≡_, refl, sym, ap, ap₂, _∙_}
 use mathlib.Core.Bool.{Bool, true, false, cond}
@@ -17,6 +17,7 @@ use native.Mathlib.Omega.{arith}
 use lib.Dec.{eqb}
 use lib.ListN.{getD}
 use Rattle.lists.specs.Stores.{Filled}
+use Rattle.lists.proofs.Cases.{less-or-not}
 use Rattle.lists.proofs.Stores.{filled-as, filled-end, filled-join, filled-join-before}
 use Rattle.rows.specs.Passes.{bent, Ahead, Behind}
 
@@ -46,6 +47,35 @@ bent-same : (m a g : List ℕ) (near far j : ℕ) → getD a (near + j) 0 ≡ ge
     → bent m a near far j ≡ bent m g near far j
 unfolding bent
 bent-same m a g near far j e f = ap₂ (λ (u v : ℕ). cond (eqb (getD m j 0) 0) u v) e f
+
+-- ---- what was made first and is stored last, over some of the others
+
+-- t was made of g at at + i, and is stored there
+module _ (op : ℕ → ℕ → ℕ) (m : List ℕ) (at near far : ℕ) (g : List ℕ) {a b : List ℕ} (t : List ℕ) (i s : ℕ)
+    (v : (k : ℕ) → k < 16 → getD t k 0 ≡ op (getD g (at + (i + k)) 0) (bent m g near far (i + k)))
+    (p : Filled a b s (s + 16) (λ (k : ℕ). getD t (k - s) 0)) (here : s ≡ at + i) where
+  made : (x : ℕ) → s ≤ x → x < s + 16 → getD b x 0 ≡ met op m g at near far x
+  made x l h =
+      let e : at + (i + (x - s)) ≡ x = omega arith in
+      p .within x l h ∙ v (x - s) (omega arith) ∙ met-is op m g at near far (i + (x - s)) x e
+
+  pub met-last : {mid n : ℕ} → Filled g a at mid (met op m g at near far) → s ≤ mid → mid ≤ at + n → i + 16 ≡ n → Filled g b at (at + n) (met op m g at near far)
+  met-last {mid} {n} f low high end =
+      record {
+        same = p .same ∙ f .same;
+        within = λ x l h. ⊎-elim (λ q. p .below x q ∙ f .within x l (omega arith)) (λ q. made x q (omega arith)) (less-or-not x s);
+        below = λ x h. p .below x (omega arith) ∙ f .below x h;
+        above = λ x h. p .above x (omega arith) ∙ f .above x (omega arith);
+      }
+
+  pub met-first : {mid n : ℕ} → Filled g a mid (at + n) (met op m g at near far) → at ≤ mid → mid ≤ at + 16 → 16 ≤ n → i ≡ 0 → Filled g b at (at + n) (met op m g at near far)
+  met-first {mid} {n} f low high some start =
+      record {
+        same = p .same ∙ f .same;
+        within = λ x l h. ⊎-elim (λ q. made x (omega arith) (omega arith)) (λ q. p .above x (omega arith) ∙ f .within x (omega arith) h) (less-or-not x (at + 16));
+        below = λ x h. p .below x (omega arith) ∙ f .below x (omega arith);
+        above = λ x h. p .above x (omega arith) ∙ f .above x h;
+      }
 
 -- ---- upward
 
@@ -79,11 +109,6 @@ module _ (op : ℕ → ℕ → ℕ) (m : List ℕ) (at near far n : ℕ) (one : 
       (omega arith) (omega arith))
       (omega arith)
 
-  pub met-join : {g a b : List ℕ} {mid hi : ℕ} → Filled g a at mid (met op m g at near far) → Filled a b mid hi (met op m a at near far)
-      → at ≤ mid → mid ≤ hi → hi ≤ at + n → Filled g b at hi (met op m g at near far)
-  met-join {g} f p low high room =
-      filled-join f (filled-as p (met op m g at near far) (λ x l h. met-ahead x f (le-refl at) low l (omega arith))) low high
-
 -- ---- downward
 
 behind : {g a : List ℕ} {s t : ℕ} {F : ℕ → ℕ} (at n p j : ℕ) → Filled g a s t F → Behind at p n → t ≤ at + n → at + j < s
@@ -115,8 +140,3 @@ module _ (op : ℕ → ℕ → ℕ) (m : List ℕ) (at near far n : ℕ) (one : 
       v (x - (at + i)) (omega arith) ∙ met-is op m a at near far (i + (x - (at + i))) x e ∙ met-behind x f (le-refl (at + n)) (omega arith) (omega arith)))
       (sym start))
       (omega arith) room
-
-  pub met-join-before : {g a b : List ℕ} {lo mid : ℕ} → Filled g a mid (at + n) (met op m g at near far) → Filled a b lo mid (met op m a at near far)
-      → at ≤ lo → lo ≤ mid → mid ≤ at + n → Filled g b lo (at + n) (met op m g at near far)
-  met-join-before {g} f p low some high =
-      filled-join-before f (filled-as p (met op m g at near far) (λ x l h. met-behind x f (le-refl (at + n)) (omega arith) h)) some high

@@ -2,7 +2,7 @@
 // What is marked depends on the column alone, so the marks are made once a pass.
 ghost use mathlib.Core.Path.{_≡_};
 ghost use mathlib.Core.Bool.{cond};
-ghost use Prim.Native.Nat.{ℕ, _+_, _-_, _*_, _/_, _≤_, _<_, min, max};
+ghost use Prim.Native.Nat.{ℕ, _+_, _-_, _*_, _/_, _%_, _≤_, _<_, min, max};
 ghost use lib.Dec.{eqb, ltb};
 ghost use lib.ListN.{length, getD};
 ghost use Rattle.lists.specs.Stores.{Filled};
@@ -72,7 +72,34 @@ fn put_sixteen(buf: &mut [u8], at: usize, t: [u8; 16])
     }
 }
 
-// Each of the `count` bytes from `at` on becomes the darker of itself and the byte that its line goes on to; upward, so that what it reads is as it was.
+// Each of the `count` bytes from `at` on becomes the darker of itself and the byte that its line goes on to, one by one; upward, so that what it reads is as it was.
+fn darken_few(buf: &mut [u8], bends: &[u8], at: usize, near: usize, far: usize, count: usize)
+    requires { ⌜ (at + count ≤ length (now buf)) × (near + count ≤ length (now buf)) × (far + count ≤ length (now buf)) × (count ≤ length (now bends)) × Ahead at near count × Ahead at far count ⌝ }
+    ensures { λ _. ⌜ Filled (now (buf .entry)) (now (buf .exit)) (at) (at + count) (λ (x : ℕ). min (getD (now (buf .entry)) x 0) (bent (now (bends .entry)) (now (buf .entry)) near far (x - at))) ⌝ }
+{
+    let mut i = 0;
+    while i < count {
+        buf[at + i] = darker(buf[at + i], either(bends[i], buf[near + i], buf[far + i]));
+        i += 1;
+    }
+}
+
+// The same by sixteens, as many as `count` has.
+fn darken_sixteens(buf: &mut [u8], bends: &[u8], at: usize, near: usize, far: usize, count: usize)
+    requires { ⌜ (at + count ≤ length (now buf)) × (near + count ≤ length (now buf)) × (far + count ≤ length (now buf)) × (count ≤ length (now bends)) × Ahead at near count × Ahead at far count ⌝ }
+    ensures { λ _. ⌜ Filled (now (buf .entry)) (now (buf .exit)) (at) (at + 16 * (count / 16)) (λ (x : ℕ). min (getD (now (buf .entry)) x 0) (bent (now (bends .entry)) (now (buf .entry)) near far (x - at))) ⌝ }
+{
+    let blocks = count / 16;
+    let mut k = 0;
+    while k < blocks {
+        let i = 16 * k;
+        let t = darker_bent_at(buf, bends, i, at, near, far);
+        put_sixteen(buf, at + i, t);
+        k += 1;
+    }
+}
+
+// The same of any count. The last sixteen are made first and stored last, over what the others have made of some of them: so nothing is left to go one by one.
 pub(crate) fn darken_bent(
     buf: &mut [u8],
     bends: &[u8],
@@ -82,18 +109,15 @@ pub(crate) fn darken_bent(
     count: usize,
 )
     requires { ⌜ (at + count ≤ length (now buf)) × (near + count ≤ length (now buf)) × (far + count ≤ length (now buf)) × (count ≤ length (now bends)) × Ahead at near count × Ahead at far count ⌝ }
-    ensures { λ _. ⌜ Filled (now (buf .entry)) (now (buf .exit)) at (at + count) (λ (x : ℕ). min (getD (now (buf .entry)) x 0) (bent (now (bends .entry)) (now (buf .entry)) near far (x - at))) ⌝ }
+    ensures { λ _. ⌜ Filled (now (buf .entry)) (now (buf .exit)) (at) (at + count) (λ (x : ℕ). min (getD (now (buf .entry)) x 0) (bent (now (bends .entry)) (now (buf .entry)) near far (x - at))) ⌝ }
 {
-    let mut i = 0;
-    while 16 <= count - i {
-        let t = darker_bent_at(buf, bends, i, at, near, far);
-        put_sixteen(buf, at + i, t);
-        i += 16;
+    if count < 16 {
+        darken_few(buf, bends, at, near, far, count);
+        return;
     }
-    while i < count {
-        buf[at + i] = darker(buf[at + i], either(bends[i], buf[near + i], buf[far + i]));
-        i += 1;
-    }
+    let last = darker_bent_at(buf, bends, count - 16, at, near, far);
+    darken_sixteens(buf, bends, at, near, far, count);
+    put_sixteen(buf, at + (count - 16), last);
 }
 
 // The brighter of each byte of a block and the byte that its line comes from, for the sixteen from byte i of the three rows on.
@@ -118,18 +142,22 @@ fn brighter_bent_at(
     t
 }
 
-// Each of the `count` bytes from `at` on becomes the brighter of itself and the byte that its line comes from; downward, so that what it reads is as it was.
-// The blocks are counted, and do not hand their place on to what is left: else every step of theirs would carry the places of both loops.
-pub(crate) fn brighten_bent(
-    buf: &mut [u8],
-    bends: &[u8],
-    at: usize,
-    near: usize,
-    far: usize,
-    count: usize,
-)
+// Each of the `count` bytes from `at` on becomes the brighter of itself and the byte that its line comes from, one by one; downward, so that what it reads is as it was.
+fn brighten_few(buf: &mut [u8], bends: &[u8], at: usize, near: usize, far: usize, count: usize)
     requires { ⌜ (at + count ≤ length (now buf)) × (near + count ≤ length (now buf)) × (far + count ≤ length (now buf)) × (count ≤ length (now bends)) × Behind at near count × Behind at far count ⌝ }
-    ensures { λ _. ⌜ Filled (now (buf .entry)) (now (buf .exit)) at (at + count) (λ (x : ℕ). max (getD (now (buf .entry)) x 0) (bent (now (bends .entry)) (now (buf .entry)) near far (x - at))) ⌝ }
+    ensures { λ _. ⌜ Filled (now (buf .entry)) (now (buf .exit)) (at) (at + count) (λ (x : ℕ). max (getD (now (buf .entry)) x 0) (bent (now (bends .entry)) (now (buf .entry)) near far (x - at))) ⌝ }
+{
+    let mut i = count;
+    while 0 < i {
+        i -= 1;
+        buf[at + i] = brighter(buf[at + i], either(bends[i], buf[near + i], buf[far + i]));
+    }
+}
+
+// The same by sixteens, up to the last byte, as many as `count` has.
+fn brighten_sixteens(buf: &mut [u8], bends: &[u8], at: usize, near: usize, far: usize, count: usize)
+    requires { ⌜ (at + count ≤ length (now buf)) × (near + count ≤ length (now buf)) × (far + count ≤ length (now buf)) × (count ≤ length (now bends)) × Behind at near count × Behind at far count ⌝ }
+    ensures { λ _. ⌜ Filled (now (buf .entry)) (now (buf .exit)) (at + count % 16) (at + count) (λ (x : ℕ). max (getD (now (buf .entry)) x 0) (bent (now (bends .entry)) (now (buf .entry)) near far (x - at))) ⌝ }
 {
     let rest = count % 16;
     let mut k = count / 16;
@@ -139,11 +167,27 @@ pub(crate) fn brighten_bent(
         let t = brighter_bent_at(buf, bends, i, at, near, far);
         put_sixteen(buf, at + i, t);
     }
-    let mut i = rest;
-    while 0 < i {
-        i -= 1;
-        buf[at + i] = brighter(buf[at + i], either(bends[i], buf[near + i], buf[far + i]));
+}
+
+// The same of any count: the first sixteen are made first and stored last.
+pub(crate) fn brighten_bent(
+    buf: &mut [u8],
+    bends: &[u8],
+    at: usize,
+    near: usize,
+    far: usize,
+    count: usize,
+)
+    requires { ⌜ (at + count ≤ length (now buf)) × (near + count ≤ length (now buf)) × (far + count ≤ length (now buf)) × (count ≤ length (now bends)) × Behind at near count × Behind at far count ⌝ }
+    ensures { λ _. ⌜ Filled (now (buf .entry)) (now (buf .exit)) (at) (at + count) (λ (x : ℕ). max (getD (now (buf .entry)) x 0) (bent (now (bends .entry)) (now (buf .entry)) near far (x - at))) ⌝ }
+{
+    if count < 16 {
+        brighten_few(buf, bends, at, near, far, count);
+        return;
     }
+    let first = brighter_bent_at(buf, bends, 0, at, near, far);
+    brighten_sixteens(buf, bends, at, near, far, count);
+    put_sixteen(buf, at, first);
 }
 
 // Each of the `count` bytes from `at` on whose line bends becomes 0.

@@ -1,153 +1,53 @@
--- Blocks first, then byte by byte; each loop in terms of the buffer that it found.
-use mathlib.Core.Path.{_∙_}
-use Prim.Native.Nat.{_+_, _-_, _≤_, min}
+-- Few bytes one by one; else by sixteens, and the last sixteen over them.
+use mathlib.Core.Path.{refl}
+use Prim.Native.Nat.{_-_, min}
 use native.Mathlib.Omega.{arith}
-use Rattle.lists.specs.Stores.{Filled}
-use Rattle.lists.proofs.Stores.{filled-none, filled-more, filled-end}
-use Rattle.rows.proofs.Bents.{met, met-read, met-ahead, met-block, met-join}
+use Rattle.rows.proofs.Bents.{met-last}
 use borrow.Author.Needs.{needs}
 use Rattle.rows.proofs.bent.darken_bent.Statement.{statement}
 use Rattle.rows.proofs.bent.darken_bent.Tie as tie
 
-abbrev Inv-loop : tie.InvT-loop
-Inv-loop buf₀ bends at near far count i₀ buf i = (i ≤ count) × Filled buf₀ buf at (at + i) (met min bends buf₀ at near far)
+darken-few-requires : tie.Need-darken-few-requires
+darken-few-requires c κs = search needs
 
-abbrev μ-loop : tie.MeasureT-loop
-μ-loop buf₀ bends at near far count i₀ buf i = count - i
+same-length : tie.Need-same-length
+same-length c = search needs
 
-abbrev Inv-loop2 : tie.InvT-loop2
-Inv-loop2 buf₀ bends at near far count i₀ buf i = (i₀ ≤ i) × (i ≤ count) × Filled buf₀ buf (at + i₀) (at + i) (met min bends buf₀ at near far)
+returns : tie.Need-returns
+returns c = c .before .before .darken-few .ensures
 
-abbrev μ-loop2 : tie.MeasureT-loop2
-μ-loop2 buf₀ bends at near far count i₀ buf i = count - i
-
-loop-holds : tie.Need-loop-holds Inv-loop μ-loop Inv-loop2 μ-loop2
-loop-holds c = (search needs, filled-end (filled-none _ _ _) (omega arith))
-
-sub-loop : tie.Need-sub-loop Inv-loop μ-loop Inv-loop2 μ-loop2
-sub-loop c = search needs
-
-darker-bent-at-requires : tie.Need-darker-bent-at-requires Inv-loop μ-loop Inv-loop2 μ-loop2
+darker-bent-at-requires : tie.Need-darker-bent-at-requires
 darker-bent-at-requires c κs = search needs
 
-add-put-sixteen : tie.Need-add-put-sixteen Inv-loop μ-loop Inv-loop2 μ-loop2
+darken-sixteens-requires : tie.Need-darken-sixteens-requires
+darken-sixteens-requires c κs = search needs
+
+add-put-sixteen : tie.Need-add-put-sixteen
 add-put-sixteen c = search needs
 
-put-sixteen-requires : tie.Need-put-sixteen-requires Inv-loop μ-loop Inv-loop2 μ-loop2
+put-sixteen-requires : tie.Need-put-sixteen-requires
 put-sixteen-requires c κs = search needs
 
-add-i : tie.Need-add-i Inv-loop μ-loop Inv-loop2 μ-loop2
-add-i c = search needs
+same-length-2 : tie.Need-same-length-2
+same-length-2 c = search needs
 
-loop-less : tie.Need-loop-less Inv-loop μ-loop Inv-loop2 μ-loop2
-loop-less c = search needs
-
-loop-again : tie.Need-loop-again Inv-loop μ-loop Inv-loop2 μ-loop2
-loop-again c =
-    let a = c .before .before .before .before .before .before .before .before .before .before .args in
-    let p = c .before .before .before .before .before .before .before .before .before .before .pre in
-    let at = c .before .before .before .before .before .before .before .loop in
-    let more = c .before .before .before .before .before .before .loop-test .taken in
-    let block = c .before .before .before .before .darker-bent-at in
-    (omega (arith, more), met-block min (a .bends .now) (a .at) (a .near) (a .far) (a .count) (p .4) (p .5) (block .result) (at .i) (at .inv .1) (omega (arith, more)) (block .ensures) (c .before .before .put-sixteen .ensures))
-
-loop2-holds : tie.Need-loop2-holds Inv-loop μ-loop Inv-loop2 μ-loop2
-loop2-holds c = (search needs, search needs, filled-none _ _ _)
-
-add-darker : tie.Need-add-darker Inv-loop μ-loop Inv-loop2 μ-loop2
-add-darker c = search needs
-
-slice-read-darker : tie.Need-slice-read-darker Inv-loop μ-loop Inv-loop2 μ-loop2
-slice-read-darker c = omega (arith, c .before .before .loop2 .inv .2 .same, c .before .before .before .before .loop .inv .1 .same)
-
-shared-slice-read-either : tie.Need-shared-slice-read-either Inv-loop μ-loop Inv-loop2 μ-loop2
-shared-slice-read-either c = search needs
-
-add-either : tie.Need-add-either Inv-loop μ-loop Inv-loop2 μ-loop2
-add-either c = search needs
-
-slice-read-either : tie.Need-slice-read-either Inv-loop μ-loop Inv-loop2 μ-loop2
-slice-read-either c = omega (arith, c .before .before .before .before .loop2 .inv .2 .same, c .before .before .before .before .before .before .loop .inv .1 .same)
-
-add-either-2 : tie.Need-add-either-2 Inv-loop μ-loop Inv-loop2 μ-loop2
-add-either-2 c = search needs
-
-slice-read-either-2 : tie.Need-slice-read-either-2 Inv-loop μ-loop Inv-loop2 μ-loop2
-slice-read-either-2 c = omega (arith, c .before .before .before .before .before .loop2 .inv .2 .same, c .before .before .before .before .before .before .before .loop .inv .1 .same)
-
-either-requires : tie.Need-either-requires Inv-loop μ-loop Inv-loop2 μ-loop2
-either-requires c κs = search needs
-
-darker-requires : tie.Need-darker-requires Inv-loop μ-loop Inv-loop2 μ-loop2
-darker-requires c κs = search needs
-
-add-buf : tie.Need-add-buf Inv-loop μ-loop Inv-loop2 μ-loop2
-add-buf c = search needs
-
-slice-write-buf : tie.Need-slice-write-buf Inv-loop μ-loop Inv-loop2 μ-loop2
-slice-write-buf c = omega (arith, c .before .before .before .before .before .before .before .loop2 .inv .2 .same, c .before .before .before .before .before .before .before .before .before .loop .inv .1 .same)
-
-add-i-2 : tie.Need-add-i-2 Inv-loop μ-loop Inv-loop2 μ-loop2
-add-i-2 c = search needs
-
-loop2-less : tie.Need-loop2-less Inv-loop μ-loop Inv-loop2 μ-loop2
-loop2-less c = search needs
-
-loop2-again : tie.Need-loop2-again Inv-loop μ-loop Inv-loop2 μ-loop2
-loop2-again c =
-    let a = c .before .before .before .before .before .before .before .before .before .before .before .before .args in
-    let p = c .before .before .before .before .before .before .before .before .before .before .before .before .pre in
-    let found = c .before .before .before .before .before .before .before .before .before .loop in
-    let at = c .before .before .before .before .before .before .before .loop2 in
-    let filled = at .inv .2 in (
-      omega arith,
-      omega arith,
-      filled-end
-          (filled-more filled (omega arith) (omega (arith, filled .same, found .inv .1 .same))
-          (met-read min (a .bends .now) (at .buf) (a .at) (a .near) (a .far) (at .i) (c .darker .ensures) (c .before .either .ensures)
-          ∙ met-ahead min (a .bends .now) (a .at) (a .near) (a .far) (a .count) (p .4) (p .5) (a .at + at .i) filled (omega arith) (omega arith) (omega arith) (omega arith)))
-          (omega arith),
-    )
-
-same-length : tie.Need-same-length Inv-loop μ-loop Inv-loop2 μ-loop2
-same-length c = c .before .loop2 .inv .2 .same ∙ c .before .before .before .loop .inv .1 .same
-
-returns : tie.Need-returns Inv-loop μ-loop Inv-loop2 μ-loop2
-returns c =
-    let a = c .before .before .before .before .before .before .args in
-    let p = c .before .before .before .before .before .before .pre in
-    filled-end (met-join min (a .bends .now) (a .at) (a .near) (a .far) (a .count) (p .4) (p .5) (c .before .before .before .loop .inv .1) (c .before .loop2 .inv .2) (omega arith) (omega arith) (omega arith)) (omega arith)
+returns-2 : tie.Need-returns-2
+returns-2 c =
+    let a = c .before .before .before .before .before .before .before .before .before .before .before .before .before .args in
+    let block = c .before .before .before .before .before .before .before .before .darker-bent-at in
+    let wide = c .before .before .before .before .before .before .before .before .before .before .if1 .left in
+    met-last min (a .bends .now) (a .at) (a .near) (a .far) (a .buf .now) (block .result) (a .count - 16) _ (block .ensures) (c .before .before .put-sixteen .ensures) refl (c .before .before .before .before .before .before .darken-sixteens .ensures) (omega (arith, wide)) (omega arith) (omega (arith, wide))
 
 pub darken-bent-spec : {M : Type 1} → statement M
 darken-bent-spec =
     tie.close
     (tie.spec
-    Inv-loop
-    μ-loop
-    Inv-loop2
-    μ-loop2
-    loop-holds
-    sub-loop
+    darken-few-requires
+    same-length
+    returns
     darker-bent-at-requires
+    darken-sixteens-requires
     add-put-sixteen
     put-sixteen-requires
-    add-i
-    loop-less
-    loop-again
-    loop2-holds
-    add-darker
-    slice-read-darker
-    shared-slice-read-either
-    add-either
-    slice-read-either
-    add-either-2
-    slice-read-either-2
-    either-requires
-    darker-requires
-    add-buf
-    slice-write-buf
-    add-i-2
-    loop2-less
-    loop2-again
-    same-length
-    returns)
+    same-length-2
+    returns-2)
