@@ -35,7 +35,7 @@ extern "C" {
  *   7   the scratch too short                                     figure: the bytes it needs
  *
  * The three blocks must not overlap, and no pointer may be null, not even for a block of no bytes. Nothing is kept after the call, and no memory is taken
- * but some hundred bytes of stack.
+ * but less than a kilobyte of stack.
  */
 uint64_t fibre_open_frame(const uint8_t *src, size_t src_bytes, size_t width, size_t height, size_t stride, int64_t p, int64_t q, size_t length,
                           uint8_t *dst, size_t dst_bytes, uint8_t *scratch, size_t scratch_bytes);

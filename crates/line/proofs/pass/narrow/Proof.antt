@@ -1,89 +1,56 @@
--- Blocks of 64 and of 16 first, then byte by byte; each in terms of the buffer that it found.
-use mathlib.Core.Path.{ap₂, _∙_}
-use Prim.Native.Nat.{_+_, _-_, _≤_, min}
+-- Few bytes one by one; else by blocks, and the last sixteen over them.
+use mathlib.Core.Path.{refl}
+use Prim.Native.Nat.{_-_}
 use native.Mathlib.Omega.{arith}
-use Rattle.lists.specs.Stores.{Filled}
-use Rattle.lists.proofs.Stores.{filled-none, filled-more, filled-end}
-use Rattle.line.specs.Passes.{narrowed}
-use Rattle.line.proofs.Blocks.{narrowed-join}
+use Rattle.line.proofs.Blocks.{narrowed-join, narrowed-last}
 use borrow.Author.Needs.{needs}
 use Rattle.line.proofs.pass.narrow.Statement.{statement}
 use Rattle.line.proofs.pass.narrow.Tie as tie
 
-abbrev Inv-loop : tie.InvT-loop
-Inv-loop buf₀ m d from i₀ buf i = (i₀ ≤ i) × (i ≤ m) × Filled buf₀ buf i₀ i (narrowed buf₀ d)
+narrow-few-requires : tie.Need-narrow-few-requires
+narrow-few-requires c κs = search needs
 
-abbrev μ-loop : tie.MeasureT-loop
-μ-loop buf₀ m d from i₀ buf i = m - i
+same-length : tie.Need-same-length
+same-length c = search needs
 
-narrow-blocks-requires : tie.Need-narrow-blocks-requires Inv-loop μ-loop
+returns : tie.Need-returns
+returns c = c .before .before .narrow-few .ensures
+
+darker-sixteen-requires : tie.Need-darker-sixteen-requires
+darker-sixteen-requires c κs = search needs
+
+narrow-blocks-requires : tie.Need-narrow-blocks-requires
 narrow-blocks-requires c κs = search needs
 
-narrow-sixteens-requires : tie.Need-narrow-sixteens-requires Inv-loop μ-loop
+narrow-sixteens-requires : tie.Need-narrow-sixteens-requires
 narrow-sixteens-requires c κs = let blocks = c .before .before .before .narrow-blocks .ensures in (blocks .0, omega (arith, blocks .1 .same))
 
-loop-holds : tie.Need-loop-holds Inv-loop μ-loop
-loop-holds c = (omega arith, c .before .before .narrow-sixteens .ensures .1, filled-none _ _ _)
+put-sixteen-requires : tie.Need-put-sixteen-requires
+put-sixteen-requires c κs = omega (arith, c .before .before .before .narrow-sixteens .ensures .3 .same, c .before .before .before .before .before .before .before .narrow-blocks .ensures .1 .same)
 
-slice-read-darker : tie.Need-slice-read-darker Inv-loop μ-loop
-slice-read-darker c = omega (arith, c .before .before .loop .inv .2 .same, c .before .before .before .before .before .narrow-sixteens .ensures .2 .same, c .before .before .before .before .before .before .before .before .before .narrow-blocks .ensures .1 .same)
+same-length-2 : tie.Need-same-length-2
+same-length-2 c = search needs
 
-add-darker : tie.Need-add-darker Inv-loop μ-loop
-add-darker c = search needs
-
-slice-read-darker-2 : tie.Need-slice-read-darker-2 Inv-loop μ-loop
-slice-read-darker-2 c = omega (arith, c .before .before .before .loop .inv .2 .same, c .before .before .before .before .before .before .narrow-sixteens .ensures .2 .same, c .before .before .before .before .before .before .before .before .before .before .narrow-blocks .ensures .1 .same)
-
-darker-requires : tie.Need-darker-requires Inv-loop μ-loop
-darker-requires c κs = search needs
-
-slice-write-buf : tie.Need-slice-write-buf Inv-loop μ-loop
-slice-write-buf c = omega (arith, c .before .before .before .before .loop .inv .2 .same, c .before .before .before .before .before .before .before .narrow-sixteens .ensures .2 .same, c .before .before .before .before .before .before .before .before .before .before .before .narrow-blocks .ensures .1 .same)
-
-add-i : tie.Need-add-i Inv-loop μ-loop
-add-i c = search needs
-
-loop-less : tie.Need-loop-less Inv-loop μ-loop
-loop-less c = search needs
-
-loop-again : tie.Need-loop-again Inv-loop μ-loop
-loop-again c =
-    let d = c .before .before .before .before .before .before .before .before .before .before .before .before .before .before .args .d in
-    let at = c .before .before .before .before .loop in
-    let filled = at .inv .2 in (
-      omega arith,
-      omega arith,
-      filled-more filled (omega arith) (omega (arith, filled .same, c .before .before .before .before .before .before .before .narrow-sixteens .ensures .2 .same, c .before .before .before .before .before .before .before .before .before .before .before .narrow-blocks .ensures .1 .same))
-          (c .darker .ensures ∙ ap₂ min (filled .above (at .i) (omega arith)) (filled .above (at .i + d) (omega arith))),
-    )
-
-same-length : tie.Need-same-length Inv-loop μ-loop
-same-length c = c .before .loop .inv .2 .same ∙ c .before .before .before .before .narrow-sixteens .ensures .2 .same ∙ c .before .before .before .before .before .before .before .before .narrow-blocks .ensures .1 .same
-
-returns : tie.Need-returns Inv-loop μ-loop
-returns c =
-    let d = c .before .before .before .before .before .before .before .before .before .before .before .args .d in
-    let blocks = c .before .before .before .before .before .before .before .before .narrow-blocks .ensures in
-    let sixteens = c .before .before .before .before .narrow-sixteens .ensures in
-    let tail = c .before .loop .inv in
-    filled-end (narrowed-join d (narrowed-join d (blocks .1) (sixteens .2) (sixteens .0)) (tail .2) (tail .0)) (omega arith)
+returns-2 : tie.Need-returns-2
+returns-2 c =
+    let a = c .before .before .before .before .before .before .before .before .before .before .before .before .before .before .before .before .args in
+    let block = c .before .before .before .before .before .before .before .before .before .before .before .before .darker-sixteen in
+    let blocks = c .before .before .before .before .before .before .before .before .before .before .narrow-blocks .ensures in
+    let sixteens = c .before .before .before .before .before .before .narrow-sixteens .ensures in
+    let wide = c .before .before .before .before .before .before .before .before .before .before .before .before .before .before .if1 .left in
+    narrowed-last (block .result) (a .m - 16) (a .d) (narrowed-join (a .d) (blocks .1) (sixteens .3) (sixteens .0)) (block .ensures) (c .before .before .put-sixteen .ensures)
+    (omega (arith, sixteens .2)) (sixteens .1) (omega (arith, wide))
 
 pub narrow-spec : {M : Type 1} → statement M
 narrow-spec =
     tie.close
     (tie.spec
-    Inv-loop
-    μ-loop
+    narrow-few-requires
+    same-length
+    returns
+    darker-sixteen-requires
     narrow-blocks-requires
     narrow-sixteens-requires
-    loop-holds
-    slice-read-darker
-    add-darker
-    slice-read-darker-2
-    darker-requires
-    slice-write-buf
-    add-i
-    loop-less
-    loop-again
-    same-length
-    returns)
+    put-sixteen-requires
+    same-length-2
+    returns-2)

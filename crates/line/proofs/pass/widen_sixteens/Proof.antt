@@ -45,7 +45,7 @@ same-length : tie.Need-same-length Inv-loop μ-loop
 same-length c = search needs
 
 returns : tie.Need-returns Inv-loop μ-loop
-returns c = c .before .loop .inv
+returns c = let at = c .before .loop .inv in (at .0, omega (arith, c .loop-test .left), at .1)
 
 pub widen-sixteens-spec : {M : Type 1} → statement M
 widen-sixteens-spec =
