@@ -1,6 +1,6 @@
 -- The computing definitions of windows, of the highest and of its direction say what specs/Equation says in facts.
 --   darkest-is, dilated-is, opened-is     a window's darkest pixel, a value of a dilation, an opened pixel
---   index-is                              where a pixel stands on its own line
+--   index-is                              where a pixel stands on its own line; entry-in, entry-index: pixel number j of a line is found at j
 --   highest-of, leads-of                  the greatest of sixteen values, and the lowest number that reaches it
 --   front-at, front-past                  the values at the front of a destination, and what follows them
 -- Assumes nothing.
@@ -8,24 +8,29 @@ use mathlib.Core.Path.{_≡_, refl, sym, ap, ap₂, subst, _∙_}
 use mathlib.Core.Bool.{Bool, true, false, cond, true≢false, _&&_}
 use mathlib.Core.Logic.{_⊎_, inl, inr}
 use mathlib.Core.List.{List, [], _∷_, List·Memᴰ, List·Memᴰ·head, List·Memᴰ·tail, List·Memᴰ·not-nil, List·Memᴰ·cases-cons}
-use Prim.Native.Nat.{ℕ, suc, _+_, _-_, _≤_, _<_, min, max}
+use Prim.Native.Nat.{ℕ, zero, suc, _+_, _-_, _≤_, _<_, min, max}
 use native.Mathlib.Omega.{arith}
 use borrow.Author.Tests.{leb-true, ltb-true, le-leb, lt-ltb, eqb-true, eq-eqb}
 use lib.Dec.{leb, ltb, eqb}
+use lib.IntN.{ℤ}
 use lib.ListN.{length, getD, drop, length-take, length-drop, List·getD-append}
 use lib.Seq.{getD-take, getD-drop, getD-append-add}
 use Rattle.lists.specs.Tables.{those, table}
 use Rattle.lists.specs.Extremes.{least, greatest}
 use Rattle.lists.specs.Stores.{front}
 use Rattle.lists.proofs.Cases.{less-or-not, both, both-left, both-right}
+use Rattle.lists.proofs.Tables.{length-table, getD-table}
 use Rattle.lists.proofs.Extremes.{le-those, least-mem}
 use Rattle.lists.proofs.Picks.{those-mem, those-in}
 use Rattle.line.specs.Windows.{window, darkest, holds, onLine, dilatedAt, openedAt}
 use Rattle.line.proofs.Windows.{darkest-le, le-darkest, le-dilated-at, le-opened-at}
 use Rattle.frame.specs.declared.direction.Direction.{Direction}
 use Rattle.frame.specs.declared.shape.Shape.{Shape}
+use Rattle.frame.specs.Direction.{shallow}
 use Rattle.frame.specs.Lines.{Pixel, at, lineOf, pixels}
-use Rattle.frame.proofs.Pixels.{on-its-line}
+use Rattle.frame.specs.Sweep.{Accepted}
+use Rattle.frame.proofs.Walks.{spot}
+use Rattle.frame.proofs.Pixels.{on-its-line, line-interval}
 use Rattle.strips.specs.Pixels.{samePixel, indexIn}
 use Rattle.opening.specs.Pixels.{firstGreatest}
 use Rattle.theorems.specs.Equation.{Holding, Darkest, Dilates, Opens, Place, Highest, Leads}
@@ -160,6 +165,33 @@ pub index-is : (sh : Shape) (d : Direction) (x y : ℕ) → x < sh .width → y 
 index-is sh d x y h l =
     let r = index-in (at x y) (pixels sh d (lineOf d x y)) (on-its-line sh d x y h l) in
     record { below = r .0; is = r .1 }
+
+-- a line passes each of its pixels once, so pixel number j of a line is found at j
+same-major : (d : Direction) (i j k l : ℕ) → spot d i j ≡ spot d k l → i ≡ k
+same-major d i j k l = go (shallow d)
+  where
+    go : (t : Bool) → cond t (at i j) (at j i) ≡ cond t (at k l) (at l k) → i ≡ k
+    go true e = ap (λ (c : Pixel). c .x) e
+    go false e = ap (λ (c : Pixel). c .y) e
+
+pub entry-in : (cs : List Pixel) (j : ℕ) → j < length cs → List·Memᴰ (getD cs j (at 0 0)) cs
+entry-in [] j h = absurd (omega arith)
+entry-in (c ∷ cs) zero h = List·Memᴰ·head refl
+entry-in (c ∷ cs) (suc j) h = List·Memᴰ·tail (entry-in cs j (omega arith))
+
+pub entry-index : (sh : Shape) (d : Direction) → Accepted sh d → (k : ℤ) (j : ℕ) → j < length (pixels sh d k)
+    → indexIn (getD (pixels sh d k) j (at 0 0)) (pixels sh d k) ≡ j
+entry-index sh d ok k j h =
+    let cs = pixels sh d k in
+    let w = line-interval sh d ok k in
+    let S : ℕ → Pixel = λ (i : ℕ). spot d (w .from + i) (w .minor i) in
+    let n : length cs ≡ w .count = ap length (w .is) ∙ length-table S (w .count) in
+    let there : (i : ℕ) → i < length cs → getD cs i (at 0 0) ≡ S i =
+    λ i l. ap (λ (l : List Pixel). getD l i (at 0 0)) (w .is) ∙ getD-table (at 0 0) S (w .count) i (omega (arith, n)) in
+    let r = index-in (getD cs j (at 0 0)) cs (entry-in cs j h) in
+    let i : ℕ = indexIn (getD cs j (at 0 0)) cs in
+    let major = same-major d (w .from + i) (w .minor i) (w .from + j) (w .minor j) (sym (there i (r .0)) ∙ r .1 ∙ there j h) in
+    omega (arith, major)
 
 -- ---- sixteen directions
 

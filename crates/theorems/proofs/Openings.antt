@@ -2,15 +2,17 @@
 --   erosion-is, dilation-is, opening-is          the values at the front of a line call's destination
 --   erosion-rest, dilation-rest, opening-rest    what follows them is unchanged
 --   no-brighter                                  no pixel of an opened line is brighter than the pixel it came from
---   frame-is                                     each pixel of an opened frame, on its own line
+--   frame-is                                     each pixel of an opened frame, on its own line; frame-lines: so each line is opened
 --   highest-is, direction-is                     each pixel of the highest over sixteen directions, and of the direction frame
 --   frame-gaps, highest-gaps, direction-gaps     bytes that are no pixel's never change
 -- Assumes nothing.
-use mathlib.Core.Path.{_≡_, sym, ap, subst, _∙_}
-use mathlib.Core.List.{List}
-use Prim.Native.Nat.{ℕ, _+_, _≤_, _<_}
+use mathlib.Core.Path.{_≡_, refl, sym, ap, subst, _∙_}
+use mathlib.Core.List.{List, [], _∷_, map}
+use Prim.Native.Nat.{ℕ, zero, suc, _+_, _≤_, _<_}
 use native.Mathlib.Omega.{arith}
+use lib.IntN.{ℤ}
 use lib.ListN.{length, getD, length-map}
+use lib.Seq.{ext-getD}
 use Rattle.lists.specs.Stores.{front}
 use Rattle.answer.specs.declared.Answer.{Answer}
 use Rattle.answer.proofs.Rules.{after-done}
@@ -24,7 +26,8 @@ use Rattle.line.proofs.Laws.{opened-below}
 use Rattle.frame.specs.declared.direction.Direction.{Direction}
 use Rattle.frame.specs.declared.shape.Shape.{Shape}
 use Rattle.frame.specs.Direction.{numberedOf}
-use Rattle.frame.specs.Lines.{Pixel, at, lineOf, pixels, place, lineRead, pixelsFor}
+use Rattle.frame.specs.Lines.{Pixel, at, lineOf, pixels, place, gathered, lineRead, pixelsFor}
+use Rattle.frame.proofs.Pixels.{its-line}
 use Rattle.frame.proofs.ByLines.{Gap}
 use Rattle.strips.specs.Pixels.{indexIn, openedPixel}
 use Rattle.opening.specs.Pixels.{inDirection}
@@ -33,7 +36,7 @@ use Rattle.opening.specs.Sixteen.{FindsHighest}
 use Rattle.opening.specs.Directions.{FindsDirections}
 use Rattle.opening.proofs.Calls.{open-ready}
 use Rattle.theorems.specs.Equation.{Darkest, Dilates, Opens, Place, Highest, Leads}
-use Rattle.theorems.proofs.Facts.{darkest-is, dilated-is, opened-is, index-is, highest-of, leads-of, front-at, front-past}
+use Rattle.theorems.proofs.Facts.{darkest-is, dilated-is, opened-is, index-is, entry-in, entry-index, highest-of, leads-of, front-at, front-past}
 
 -- ---- lines
 
@@ -108,6 +111,11 @@ opened-on f sh d L x y some h l =
           (opened-is (lineRead f sh d (lineOf d x y)) (pixelsFor d L) j some);
     }
 
+map-at : (h : Pixel → ℕ) (cs : List Pixel) (j : ℕ) → j < length cs → getD (map h cs) j 0 ≡ h (getD cs j (at 0 0))
+map-at h [] j l = absurd (omega arith)
+map-at h (c ∷ cs) zero l = refl
+map-at h (c ∷ cs) (suc j) l = map-at h cs j (omega arith)
+
 module _ {f : List ℕ} {sh : Shape} {d : Direction} {L : ℕ} {g g′ t t′ : List ℕ} {a : Answer} (p : OpensFrame f sh d L g g′ t t′ a) (z : a .number ≡ 0) where
   -- 'at each pixel, over all windows of L neighbouring pixels that hold it and lie wholly on its line'
   pub frame-is : (x y : ℕ) → x < sh .width → y < sh .height → OpenedOn f sh d L x y (getD g′ (place sh (at x y)) 0)
@@ -118,6 +126,27 @@ module _ {f : List ℕ} {sh : Shape} {d : Direction} {L : ℕ} {g g′ t t′ : 
   -- 'Bytes between rows and after the last pixel of a destination never change.'
   pub frame-gaps : (i : ℕ) → Gap sh i → getD g′ i 0 ≡ getD g i 0
   frame-gaps = p .done z .gaps
+
+  -- 'A frame is opened line by line in one direction.'
+  pub frame-lines : (k : ℤ) → gathered g′ sh d k ≡ opened (lineRead f sh d k) (pixelsFor d L)
+  unfolding openedPixel
+  frame-lines k =
+      let cs = pixels sh d k in
+      let n : length (gathered g′ sh d k) ≡ length cs = length-map cs (λ (c : Pixel). getD g′ (place sh c) 0) in
+      let m : length (opened (lineRead f sh d k) (pixelsFor d L)) ≡ length cs =
+      opened-length (lineRead f sh d k) (pixelsFor d L) ∙ length-map cs (λ (c : Pixel). getD f (place sh c) 0) in
+      ext-getD 0 (gathered g′ sh d k) (opened (lineRead f sh d k) (pixelsFor d L)) (n ∙ sym m) (λ j h. value j (omega (arith, n)))
+    where
+      value : (j : ℕ) → j < length (pixels sh d k) → getD (gathered g′ sh d k) j 0 ≡ getD (opened (lineRead f sh d k) (pixelsFor d L)) j 0
+      value j h =
+          let cs = pixels sh d k in
+          let c : Pixel = getD cs j (at 0 0) in
+          let on = its-line sh d k (c .x) (c .y) (entry-in cs j h) in
+          let ok = open-ready sh L (length f) (length g) (length t) d (p .answers) z .ok in
+          map-at (λ (c : Pixel). getD g′ (place sh c) 0) cs j h
+          ∙ p .done z .pixels (c .x) (c .y) (on .0) (on .1)
+          ∙ ap (λ (k : ℤ). getD (opened (lineRead f sh d k) (pixelsFor d L)) (indexIn c (pixels sh d k)) 0) (on .2)
+          ∙ ap (λ (i : ℕ). getD (opened (lineRead f sh d k) (pixelsFor d L)) i 0) (entry-index sh d ok k j h)
 
 module _ {f : List ℕ} {sh : Shape} {L : ℕ} {g g′ t t′ : List ℕ} {a : Answer} where
   -- 'The highest opening takes, at each pixel, the greatest over the sixteen'

@@ -1,30 +1,25 @@
 -- 'It is shown that one input allows one outcome only; scratch after a done call is the exception.' For each call: two outcomes that its contract allows
 -- of one input are the same. What scratch holds after a refusal is in Refusals: it is unchanged.
---   erode-once, dilate-once, open-line-once, open-lanes-once, darken-once, brighten-once, blacken-once
+--   erode-once, dilate-once, open-line-once
 --   gather-once, scatter-once
 --   open-frame-once, highest-once, directions-once, host-once
 --   list-once, next-once
 --   sums-of-line-once, sums-of-frame-once, rose-once
 -- The contract of every other call is an equation `answer ≡ definition`, which one value alone meets: `row`, `lines_of`, `sweep_of`, `span_of`,
--- `numbered`, `turned`, `is_shallow`, `is_direction`, `is_frame`, `bytes`, `begin`, `count`, `rose_refusal`, `summarize`, `is_outside`, `growth`.
+-- `numbered`, `turned`, `is_shallow`, `is_direction`, `is_frame`, `bytes`, `strip_bytes`, `begin`, `count`, `rose_refusal`, `summarize`, `is_outside`,
+-- `growth`, `Answer::done`, `Answer::refused`. Engines has the calls that only other crates of the library make.
 -- Assumes nothing.
 use mathlib.Core.Path.{_≡_, sym, ap, _∙_}
-use mathlib.Core.Logic.{⊎-elim}
 use mathlib.Core.List.{List, map}
-use Prim.Native.Nat.{ℕ, _+_, _-_, _≤_}
-use native.Mathlib.Omega.{arith}
+use Prim.Native.Nat.{ℕ, _-_}
 use lib.ListN.{length}
 use lib.IntN.{ℤ}
-use lib.Seq.{ext-getD}
-use Rattle.lists.specs.Stores.{Filled, front}
-use Rattle.lists.proofs.Cases.{less-or-not}
+use Rattle.lists.specs.Stores.{front}
 use Rattle.answer.specs.declared.Answer.{Answer}
 use Rattle.answer.specs.Rules.{after}
 use Rattle.line.specs.Erosion.{ErodesLine}
 use Rattle.line.specs.Dilation.{DilatesLine}
 use Rattle.line.specs.Opening.{OpensLine}
-use Rattle.line.specs.Lanes.{OpensFront}
-use Rattle.line.specs.Parts.{Darkens, Brightens, Clears}
 use Rattle.line.proofs.Laws as line
 use Rattle.frame.specs.declared.direction.Direction.{Direction}
 use Rattle.frame.specs.declared.shape.Shape.{Shape}
@@ -63,33 +58,6 @@ module _ {src : List ℕ} {L : ℕ} {dst dst₁ dst₂ : List ℕ} {a₁ a₂ : 
 pub open-line-once : {src : List ℕ} {L : ℕ} {dst dst₁ dst₂ t t₁ t₂ : List ℕ} {a₁ a₂ : Answer} → OpensLine src L dst dst₁ t t₁ a₁ → OpensLine src L dst dst₂ t t₂ a₂
     → (a₁ ≡ a₂) × (dst₁ ≡ dst₂)
 open-line-once = line.opens-once
-
-pub open-lanes-once : {c n L : ℕ} {b b₁ b₂ : List ℕ} → OpensFront c n L b b₁ → OpensFront c n L b b₂ → b₁ ≡ b₂
-open-lanes-once = line.front-once
-
-filled-once : {b b₁ b₂ : List ℕ} {lo hi : ℕ} {F : ℕ → ℕ} → Filled b b₁ lo hi F → Filled b b₂ lo hi F → b₁ ≡ b₂
-filled-once {b} {b₁} {b₂} {lo} {hi} p q =
-    ext-getD 0 b₁ b₂ (p .same ∙ sym (q .same))
-    (λ k h.
-    ⊎-elim (λ low. p .below k low ∙ sym (q .below k low))
-    (λ from. ⊎-elim (λ in′. p .within k from in′ ∙ sym (q .within k from in′)) (λ past. p .above k past ∙ sym (q .above k past)) (less-or-not k hi))
-    (less-or-not k lo))
-
-module _ {at count : ℕ} {b b₁ b₂ : List ℕ} where
-  pub darken-once : {d : ℕ} → Darkens at count d b b₁ → Darkens at count d b b₂ → b₁ ≡ b₂
-  darken-once {d} p q =
-      ⊎-elim (λ short. let out : at + d + count ≤ length b → ⊥ = λ fit. omega arith in p .none out ∙ sym (q .none out))
-      (λ fit. filled-once (p .done fit) (q .done fit)) (less-or-not (length b) (at + d + count))
-
-  pub brighten-once : {d : ℕ} → Brightens at count d b b₁ → Brightens at count d b b₂ → b₁ ≡ b₂
-  brighten-once {d} p q =
-      ⊎-elim (λ short. let out : at + d + count ≤ length b → ⊥ = λ fit. omega arith in p .none out ∙ sym (q .none out))
-      (λ fit. filled-once (p .done fit) (q .done fit)) (less-or-not (length b) (at + d + count))
-
-  pub blacken-once : Clears at count b b₁ → Clears at count b b₂ → b₁ ≡ b₂
-  blacken-once p q =
-      ⊎-elim (λ short. let out : at + count ≤ length b → ⊥ = λ fit. omega arith in p .none out ∙ sym (q .none out))
-      (λ fit. filled-once (p .done fit) (q .done fit)) (less-or-not (length b) (at + count))
 
 -- ---- frames
 

@@ -1,25 +1,29 @@
 -- Demand 2, size sums: what done calls put into the sums slice, from their contracts alone; and the rose and the summary.
 --   line-bin, line-rest, line-whole      each bin and the rest of a line; together they are the light in the line
---   frame-bin, frame-rest, frame-whole   the same of a frame in a direction
+--   frame-bin, frame-rest, frame-whole   the same of a frame in a direction; frame-sum-opened: its sum for a length is the light of the opened frame
 --   rose-row, rose-whole                 each row of a done rose; rose-unmarked: no entry of it is the mark of a refused rose
 --   summary-is                           mean and share of a done summary
 -- Demand 3's last sentence, bins and rest from the list of stretches, is in Stretches.
 -- Assumes nothing.
-use mathlib.Core.Path.{_≡_, refl, ap, _∙_}
+use mathlib.Core.Path.{_≡_, refl, sym, ap, _∙_}
 use mathlib.Core.List.{List, []}
 use Prim.Native.Nat.{ℕ, suc, _+_, _-_, _≤_, _<_, _^_}
+use lib.IntN.{pos, _+ℤ_}
 use lib.ListN.{length, getD}
 use Rattle.lists.specs.Extremes.{total}
-use Rattle.lists.proofs.Tables.{getD-table}
+use Rattle.lists.proofs.Tables.{getD-table, table-same}
 use Rattle.answer.specs.declared.Answer.{Answer}
 use Rattle.answer.specs.Rules.{answer}
 use Rattle.answer.proofs.Rules.{Kept, after-done}
 use Rattle.frame.specs.declared.direction.Direction.{Direction}
 use Rattle.frame.specs.declared.shape.Shape.{Shape}
 use Rattle.frame.specs.Direction.{numberedOf}
-use Rattle.frame.specs.Lines.{light}
+use Rattle.frame.specs.Lines.{light, firstLine, lineCount}
 use Rattle.frame.specs.Sweep.{Accepted}
 use Rattle.frame.proofs.Directions.{numbered-accepted}
+use Rattle.frame.proofs.Light.{lines-light}
+use Rattle.opening.specs.Frames.{OpensFrame}
+use Rattle.opening.proofs.Calls.{open-ready}
 use Rattle.bridge.specs.Sums.{sumFor, binFor, restFor}
 use Rattle.sizes.specs.Sums.{lineSums, frameSum, frameSums}
 use Rattle.sizes.specs.Line.{SumsLine}
@@ -32,6 +36,7 @@ use Rattle.sizes.proofs.Calls.{frame-fits}
 use Rattle.sizes.proofs.Gathered.{frame-total}
 use Rattle.sizes.proofs.Petals.{rose-fits, sum-never-largest}
 use Rattle.theorems.proofs.Refusals.{rose-settled, summary-settled}
+use Rattle.theorems.proofs.Openings.{frame-lines}
 
 -- K bins and the rest
 module _ {f sums sums′ t t′ : List ℕ} {a : Answer} (p : SumsLine f sums sums′ t t′ a) (z : a .number ≡ 0) where
@@ -62,6 +67,13 @@ module _ {f : List ℕ} {sh : Shape} {d : Direction} {sums sums′ t t′ : List
 
   pub frame-whole : total sums′ ≡ light f sh
   frame-whole = ap total frame-filled ∙ frame-total f sh d (length sums - 1) (frame-fits sh d (length sums) (length f) (length t) (p .answers) z .0 .ok)
+
+-- 'The sum for a length is the total of the opened pixels.': of a frame, those that `open_frame` leaves for that direction and length
+pub frame-sum-opened : {f : List ℕ} {sh : Shape} {d : Direction} {L : ℕ} {g g′ t t′ : List ℕ} {a : Answer} → OpensFrame f sh d L g g′ t t′ a → a .number ≡ 0
+    → frameSum f sh d L ≡ light g′ sh
+frame-sum-opened {f} {sh} {d} {L} {g} {g′} {t} p z =
+    sym (ap total (table-same _ _ (lineCount sh d) (λ u l. ap total (frame-lines p z (firstLine sh d +ℤ pos u)))))
+    ∙ lines-light g′ sh d (open-ready sh L (length f) (length g) (length t) d (p .answers) z .ok)
 
 -- ---- the rose
 
