@@ -1,5 +1,5 @@
 -- The computing definitions of windows, of the highest and of its direction say what specs/Equation says in facts.
---   darkest-is, dilated-is, opened-is     a window's darkest pixel, a value of a dilation, an opened pixel
+--   darkest-is, dilated-is, opened-is     a window's darkest pixel, a value of a dilation, an opened pixel; opens-alone: one value alone meets equation (3)
 --   index-is                              where a pixel stands on its own line; entry-in, entry-index: pixel number j of a line is found at j
 --   highest-of, leads-of                  the greatest of sixteen values, and the lowest number that reaches it
 --   front-at, front-past                  the values at the front of a destination, and what follows them
@@ -9,6 +9,7 @@ use mathlib.Core.Bool.{Bool, true, false, cond, true≢false, _&&_}
 use mathlib.Core.Logic.{_⊎_, inl, inr}
 use mathlib.Core.List.{List, [], _∷_, List·Memᴰ, List·Memᴰ·head, List·Memᴰ·tail, List·Memᴰ·not-nil, List·Memᴰ·cases-cons}
 use Prim.Native.Nat.{ℕ, zero, suc, _+_, _-_, _≤_, _<_, min, max}
+use native.Mathlib.Nat.{le-antisymm}
 use native.Mathlib.Omega.{arith}
 use borrow.Author.Tests.{leb-true, ltb-true, le-leb, lt-ltb, eqb-true, eq-eqb}
 use lib.Dec.{leb, ltb, eqb}
@@ -138,6 +139,14 @@ opened-is f L x some =
           (λ i h. none i (omega (arith, h .fits)) (both (onLine (length f) L i) (holds L i x) (le-leb (i + L) (length f) (h .fits)) (holding L i x (h .from) (h .to)))),
           z,
         )
+
+-- the facts settle the value
+pub opens-alone : (f : List ℕ) (L x v w : ℕ) → Opens f L x v → Opens f L x w → v ≡ w
+opens-alone f L x v w p q = le-antisymm (below v w (p .reached) q) (below w v (q .reached) p)
+  where
+    below : (v w : ℕ) → ((i : ℕ) × Holding (length f) L x i × Darkest f i L v) ⊎ (((i : ℕ) → Holding (length f) L x i → ⊥) × (v ≡ 0)) → Opens f L x w → v ≤ w
+    below v w (inl (i, h, d)) q = q .above i v h d
+    below v w (inr (none, z)) q = omega arith
 
 -- ---- a pixel's place on its line
 

@@ -3,6 +3,7 @@
 --   erosion-rest, dilation-rest, opening-rest    what follows them is unchanged
 --   no-brighter                                  no pixel of an opened line is brighter than the pixel it came from
 --   frame-is                                     each pixel of an opened frame, on its own line; frame-lines: so each line is opened
+--   opened-on                                    the same of the definition `openedPixel`, which the next two speak of
 --   highest-is, direction-is                     each pixel of the highest over sixteen directions, and of the direction frame
 --   frame-gaps, highest-gaps, direction-gaps     bytes that are no pixel's never change
 -- Assumes nothing.
@@ -35,7 +36,7 @@ use Rattle.opening.specs.Frames.{OpensFrame}
 use Rattle.opening.specs.Sixteen.{FindsHighest}
 use Rattle.opening.specs.Directions.{FindsDirections}
 use Rattle.opening.proofs.Calls.{open-ready}
-use Rattle.theorems.specs.Equation.{Darkest, Dilates, Opens, Place, Highest, Leads}
+use Rattle.theorems.specs.Equation.{Darkest, Dilates, Opens, OpenedOn, Highest, Leads}
 use Rattle.theorems.proofs.Facts.{darkest-is, dilated-is, opened-is, index-is, entry-in, entry-index, highest-of, leads-of, front-at, front-past}
 
 -- ---- lines
@@ -91,12 +92,7 @@ module _ {src dst dst′ scratch scratch′ : List ℕ} {L : ℕ} {a : Answer} (
 
 -- ---- frames
 
--- pixel (x, y) of f opened in direction d is number j of its line, and there it is what equation (3) says
-pub record OpenedOn (f : List ℕ) (sh : Shape) (d : Direction) (L x y v : ℕ) : Type 0 where
-  pub j : ℕ
-  pub stands : Place sh d x y j
-  pub opens : Opens (lineRead f sh d (lineOf d x y)) (pixelsFor d L) j v
-
+-- what `openedPixel` computes is what equation (3) says; so are the sixteen values of highest-is and direction-is
 pub opened-on : (f : List ℕ) (sh : Shape) (d : Direction) (L x y : ℕ) → 1 ≤ L → x < sh .width → y < sh .height → OpenedOn f sh d L x y (openedPixel f sh d L x y)
 unfolding openedPixel
 opened-on f sh d L x y some h l =

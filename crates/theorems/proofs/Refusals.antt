@@ -4,7 +4,7 @@
 --   open-frame-settled, highest-settled, directions-settled, host-settled
 --   list-settled
 --   sums-of-line-settled, sums-of-frame-settled, rose-settled, summary-settled
--- That a call ends and touches only what was lent is not said here: every function is proved total, and one that touched more would not be accepted.
+-- That a call ends, and touches only what was lent, the prover shows of every function; no statement here has to say it.
 -- Assumes nothing.
 use mathlib.Core.Path.{_≡_, refl, ap, _∙_}
 use mathlib.Core.Bool.{Bool, true, false, cond}

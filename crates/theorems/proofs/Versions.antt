@@ -4,6 +4,7 @@
 --   frame-dark, frame-copied, frame-unwritten     the same of a frame
 --   first-row-only, first-line-only   a frame opening that treats its first line and copies the rest, along and on the diagonal
 --   count-invented, whole-line-only   a listing with an invented count, or with only the whole line
+--   across-for-along, tie-to-last     directions filed under each other's name, or a tie given to the last
 -- Assumes nothing.
 use mathlib.Core.Path.{_≡_, refl, sym, ap, _∙_}
 use mathlib.Core.Bool.{true}
@@ -31,6 +32,7 @@ use Rattle.frame.specs.Gathering.{Gathers}
 use Rattle.frame.specs.Scattering.{Scatters}
 use Rattle.strips.specs.Pixels as strips
 use Rattle.strips.specs.Pixels.{openedPixel, Painted}
+use Rattle.opening.specs.Pixels as leading
 use Rattle.opening.specs.Frames.{OpensFrame}
 use Rattle.opening.specs.Sixteen.{FindsHighest}
 use Rattle.opening.specs.Directions.{FindsDirections}
@@ -198,3 +200,29 @@ whole-line-only {rest} p =
     p .written ∙ ap (λ (a : Answer). after a (front (stretches line) blank) blank) (p .answers) in
     let first : _≡_ {A = ℕ} 0 1 = ap (λ (l : List Stretch). getD l 0 (s 0 0 0 0) .start) e in
     omega (arith, first)
+
+-- ---- 'Directions filed in order of arrival, or a tie given to the last' (a trap that no marked example holds)
+
+-- a bright row
+abbrev bar : List ℕ
+bar =
+    1 ∷ 1 ∷ 1 ∷ 7
+    ∷ 9 ∷ 9 ∷ 9 ∷ 7
+    ∷ 1 ∷ 1 ∷ 1 ∷ []
+
+module _ {rest t′ : List ℕ} {a : Answer} where
+  -- what is opened across, under the name of along: pixel (0, 0) may be 1, (0, 1) may not
+  pub across-for-along : OpensFrame bar small along 3 sixes (1 ∷ 1 ∷ 1 ∷ 8 ∷ 1 ∷ rest) spare t′ a → ⊥
+  unfolding tables.each extremes.least extremes.greatest windows.opened lines.r strips.indexIn strips.openedPixel
+  across-for-along p =
+      let z : a .number ≡ 0 = ap (λ (a : Answer). a .number) (p .answers) in
+      let below : _≡_ {A = ℕ} 1 9 = p .done z .pixels 0 1 (omega arith) (omega arith) in
+      omega (arith, below)
+
+  -- 3, 4 and 5 all hold the diagonal of a frame of 3 by 3 pixels; the lowest number has it
+  pub tie-to-last : FindsDirections strand small 3 sixes (5 ∷ rest) spare t′ a → ⊥
+  unfolding tables.each extremes.least extremes.greatest windows.opened lines.r strips.indexIn strips.openedPixel leading.firstGreatest
+  tie-to-last p =
+      let z : a .number ≡ 0 = ap (λ (a : Answer). a .number) (p .answers) in
+      let corner : _≡_ {A = ℕ} 5 3 = p .done z .pixels 0 0 (omega arith) (omega arith) in
+      omega (arith, corner)
