@@ -116,7 +116,7 @@ module _ {g′ t′ : List ℕ} {a : Answer} where
   pub refusing-sums-of-frame : SumsFrame strand small diagonal nines g′ spare t′ a → Refused a → ⊥
   refusing-sums-of-frame p = answered (p .answers) refl
 
--- a refused rose is dark in every entry
+-- a refused rose has the largest number in every entry
 pub refusing-rose : {t′ : List ℕ} → Roses strand small spare t′ darkRose → ⊥
 unfolding tables.each extremes.least extremes.greatest extremes.total windows.opened lines.r
 refusing-rose p =
