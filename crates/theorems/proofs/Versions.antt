@@ -1,4 +1,5 @@
 -- 'Versions to be shown unprovable': on an input that is written out, the contract does not allow the outcome of that version.
+-- That it allows some outcome of every input, the proved code shows.
 --   refusing-..                       a call that refuses everything, for each numbered call, the rose and the summary
 --   line-dark, line-copied, line-unwritten        an opening of a line that is 0 everywhere, that copies its source, that writes no pixel
 --   frame-dark, frame-copied, frame-unwritten     the same of a frame
