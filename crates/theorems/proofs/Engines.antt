@@ -1,0 +1,144 @@
+-- One input allows one outcome, of the calls that the crates of the library make of each other: the engines and their passes. They have no rules; what
+-- does not fit changes nothing.
+--   open-lanes-once, darken-once, brighten-once, blacken-once    the passes over a buffer
+--   open-steep-once, open-shallow-once                           a frame opened where it stands
+--   put-frame-once, claim-frame-once                             a frame opened into another, by strips
+-- Marks and strips in scratch are the exception, as scratch is elsewhere.
+-- Assumes nothing.
+use mathlib.Core.Path.{_≡_, refl, sym, ap, subst, _∙_}
+use mathlib.Core.Bool.{Bool, true, false, not, _&&_}
+use mathlib.Core.Logic.{⊎-elim}
+use mathlib.Core.List.{List}
+use Prim.Native.Nat.{ℕ, _+_, _≤_, _<_}
+use native.Mathlib.Omega.{arith}
+use lib.Dec.{leb}
+use lib.ListN.{length, getD, drop}
+use lib.Seq.{ext-getD}
+use borrow.Author.Tests.{not-true}
+use Rattle.lists.specs.Stores.{Filled}
+use Rattle.lists.proofs.Cases.{less-or-not, both-left, both-right}
+use Rattle.line.specs.Lanes.{OpensFront}
+use Rattle.line.specs.Parts.{Darkens, Brightens, Clears}
+use Rattle.line.proofs.Laws as line
+use Rattle.frame.specs.declared.direction.Direction.{Direction}
+use Rattle.frame.specs.declared.shape.Shape.{Shape}
+use Rattle.frame.specs.declared.sweep.Sweep.{Sweep}
+use Rattle.frame.specs.Direction.{isDirection, shallow}
+use Rattle.frame.specs.Shape.{isFrame, needed}
+use Rattle.frame.specs.Lines.{at, place}
+use Rattle.frame.specs.Sweep as sweep
+use Rattle.frame.specs.Sweep.{sweepOf}
+use Rattle.frame.proofs.ByLines.{frames-same}
+use Rattle.rows.specs.Rows.{spot, PixelsAre, opensSteep, OpensSteep, opensShallow, OpensShallow}
+use Rattle.strips.specs.Engine.{stripBytes, fits, claimFits, PutsFrame, ClaimsFrame}
+use Rattle.strips.proofs.Fits.{fits-ready}
+use Rattle.strips.proofs.Claims.{packed-frame}
+use Rattle.strips.proofs.Paintings.{painted-once}
+
+-- ---- passes
+
+pub open-lanes-once : {c n L : ℕ} {b b₁ b₂ : List ℕ} → OpensFront c n L b b₁ → OpensFront c n L b b₂ → b₁ ≡ b₂
+open-lanes-once = line.front-once
+
+filled-once : {b b₁ b₂ : List ℕ} {lo hi : ℕ} {F : ℕ → ℕ} → Filled b b₁ lo hi F → Filled b b₂ lo hi F → b₁ ≡ b₂
+filled-once {b} {b₁} {b₂} {lo} {hi} p q =
+    ext-getD 0 b₁ b₂ (p .same ∙ sym (q .same))
+    (λ k h.
+    ⊎-elim (λ low. p .below k low ∙ sym (q .below k low))
+    (λ from. ⊎-elim (λ in′. p .within k from in′ ∙ sym (q .within k from in′)) (λ past. p .above k past ∙ sym (q .above k past)) (less-or-not k hi))
+    (less-or-not k lo))
+
+module _ {at count : ℕ} {b b₁ b₂ : List ℕ} where
+  pub darken-once : {d : ℕ} → Darkens at count d b b₁ → Darkens at count d b b₂ → b₁ ≡ b₂
+  darken-once {d} p q =
+      ⊎-elim (λ short. let out : at + d + count ≤ length b → ⊥ = λ fit. omega arith in p .none out ∙ sym (q .none out))
+      (λ fit. filled-once (p .done fit) (q .done fit)) (less-or-not (length b) (at + d + count))
+
+  pub brighten-once : {d : ℕ} → Brightens at count d b b₁ → Brightens at count d b b₂ → b₁ ≡ b₂
+  brighten-once {d} p q =
+      ⊎-elim (λ short. let out : at + d + count ≤ length b → ⊥ = λ fit. omega arith in p .none out ∙ sym (q .none out))
+      (λ fit. filled-once (p .done fit) (q .done fit)) (less-or-not (length b) (at + d + count))
+
+  pub blacken-once : Clears at count b b₁ → Clears at count b b₂ → b₁ ≡ b₂
+  blacken-once p q =
+      ⊎-elim (λ short. let out : at + count ≤ length b → ⊥ = λ fit. omega arith in p .none out ∙ sym (q .none out))
+      (λ fit. filled-once (p .done fit) (q .done fit)) (less-or-not (length b) (at + count))
+
+-- ---- a frame where it stands
+
+-- the bytes of a sweep are those of the frame's pixels, by columns where it is shallow and by rows where it is steep
+module _ {sh : Shape} {F : ℕ → ℕ → ℕ} {b b₁ b₂ : List ℕ} (s : Sweep) (ok : isFrame sh ≡ true) where
+  columns-once : (s .major ≡ 1) × (s .minor ≡ sh .stride) × (s .majors ≡ sh .width) × (s .minors ≡ sh .height)
+      → PixelsAre (spot s) (s .majors) (s .minors) F b b₁ → PixelsAre (spot s) (s .majors) (s .minors) F b b₂ → b₁ ≡ b₂
+  columns-once (major, minor, majors, minors) p q =
+      frames-same sh b₁ b₂ ok (p .same ∙ sym (q .same))
+      (λ x y h l. subst (λ (i : ℕ). getD b₁ i 0 ≡ getD b₂ i 0) (byte x y) (p .within x y (omega arith) (omega arith) ∙ sym (q .within x y (omega arith) (omega arith))))
+      (λ k gap.
+      let none : (i j : ℕ) → i < s .majors → j < s .minors → k ≡ spot s i j → ⊥ = λ i j h l e. gap i j (omega arith) (omega arith) (e ∙ byte i j) in
+      p .other k none ∙ sym (q .other k none))
+    where
+      byte : (x y : ℕ) → spot s x y ≡ place sh (at x y)
+      byte x y = rw (major, minor) (omega arith)
+
+  rows-once : (s .major ≡ sh .stride) × (s .minor ≡ 1) × (s .majors ≡ sh .height) × (s .minors ≡ sh .width)
+      → PixelsAre (spot s) (s .majors) (s .minors) F b b₁ → PixelsAre (spot s) (s .majors) (s .minors) F b b₂ → b₁ ≡ b₂
+  rows-once (major, minor, majors, minors) p q =
+      frames-same sh b₁ b₂ ok (p .same ∙ sym (q .same))
+      (λ x y h l. subst (λ (i : ℕ). getD b₁ i 0 ≡ getD b₂ i 0) (byte y x) (p .within y x (omega arith) (omega arith) ∙ sym (q .within y x (omega arith) (omega arith))))
+      (λ k gap.
+      let none : (i j : ℕ) → i < s .majors → j < s .minors → k ≡ spot s i j → ⊥ = λ i j h l e. gap j i (omega arith) (omega arith) (e ∙ byte i j) in
+      p .other k none ∙ sym (q .other k none))
+    where
+      byte : (y x : ℕ) → spot s y x ≡ place sh (at x y)
+      byte y x = rw (major, minor) (omega arith)
+
+columns : (sh : Shape) (d : Direction) → shallow d ≡ true
+    → (sweepOf sh d .major ≡ 1) × (sweepOf sh d .minor ≡ sh .stride) × (sweepOf sh d .majors ≡ sh .width) × (sweepOf sh d .minors ≡ sh .height)
+unfolding sweep.sweepOf
+columns sh d e = (rw e, rw e, rw e, rw e)
+
+rows : (sh : Shape) (d : Direction) → shallow d ≡ false
+    → (sweepOf sh d .major ≡ sh .stride) × (sweepOf sh d .minor ≡ 1) × (sweepOf sh d .majors ≡ sh .height) × (sweepOf sh d .minors ≡ sh .width)
+unfolding sweep.sweepOf
+rows sh d e = (rw e, rw e, rw e, rw e)
+
+pub open-steep-once : {sh : Shape} {d : Direction} {L : ℕ} {b b₁ b₂ : List ℕ} → OpensSteep sh d L b b₁ → OpensSteep sh d L b b₂ → b₁ ≡ b₂
+open-steep-once {sh} {d} {L} {b} {b₁} {b₂} p q = go (opensSteep sh d L b) refl
+  where
+    go : (t : Bool) → opensSteep sh d L b ≡ t → b₁ ≡ b₂
+    go true e =
+        let after : (not (shallow d) && (leb 1 L && leb (needed sh) (length b))) ≡ true = both-right (isDirection d) _ (both-right (isFrame sh) _ e) in
+        rows-once (sweepOf sh d) (both-left (isFrame sh) _ e) (rows sh d (not-true (shallow d) (both-left (not (shallow d)) _ after))) (p .done e) (q .done e)
+    go false e = p .none e ∙ sym (q .none e)
+
+pub open-shallow-once : {sh : Shape} {d : Direction} {L : ℕ} {b b₁ b₂ m m₁ m₂ : List ℕ} → OpensShallow sh d L b b₁ m m₁ → OpensShallow sh d L b b₂ m m₂ → b₁ ≡ b₂
+open-shallow-once {sh} {d} {L} {b} {b₁} {b₂} {m} p q = go (opensShallow sh d L b (length m)) refl
+  where
+    go : (t : Bool) → opensShallow sh d L b (length m) ≡ t → b₁ ≡ b₂
+    go true e =
+        let after = both-right (isDirection d) _ (both-right (isFrame sh) _ e) in
+        columns-once (sweepOf sh d) (both-left (isFrame sh) _ e) (columns sh d (both-left (shallow d) _ after)) (p .done e) (q .done e)
+    go false e = p .none e .0 ∙ sym (q .none e .0)
+
+-- ---- a frame into another
+
+pub put-frame-once : {f : List ℕ} {raise : Bool} {sh : Shape} {d : Direction} {L : ℕ} {g g₁ g₂ t t₁ t₂ : List ℕ} → PutsFrame f raise sh d L g g₁ t t₁
+    → PutsFrame f raise sh d L g g₂ t t₂ → g₁ ≡ g₂
+put-frame-once {f} {raise} {sh} {d} {L} {g} {g₁} {g₂} {t} p q = go (fits sh d L (length f) (length g) (length t)) refl
+  where
+    go : (b : Bool) → fits sh d L (length f) (length g) (length t) ≡ b → g₁ ≡ g₂
+    go true e = painted-once (fits-ready sh d L (length f) (length g) (length t) e .ok .frame) (p .fitted e) (q .fitted e)
+    go false e = p .unfit e .0 ∙ sym (q .unfit e .0)
+
+-- the best values so far are settled too, behind the strips
+pub claim-frame-once : {f : List ℕ} {number : ℕ} {sh : Shape} {d : Direction} {L : ℕ} {g g₁ g₂ t t₁ t₂ : List ℕ} → ClaimsFrame f number sh d L g g₁ t t₁
+    → ClaimsFrame f number sh d L g g₂ t t₂ → (g₁ ≡ g₂) × (drop (stripBytes sh) t₁ ≡ drop (stripBytes sh) t₂)
+claim-frame-once {f} {number} {sh} {d} {L} {g} {g₁} {g₂} {t} {t₁} {t₂} p q = go (claimFits sh d L (length f) (length g) (length t)) refl
+  where
+    go : (b : Bool) → claimFits sh d L (length f) (length g) (length t) ≡ b → (g₁ ≡ g₂) × (drop (stripBytes sh) t₁ ≡ drop (stripBytes sh) t₂)
+    go true e =
+        let ok = fits-ready sh d L (length f) (length g) (length t) (both-left (fits sh d L (length f) (length g) (length t)) _ e) .ok .frame in (
+          painted-once ok (p .fitted e .holders) (q .fitted e .holders),
+          painted-once (packed-frame sh ok) (p .fitted e .raised) (q .fitted e .raised),
+        )
+    go false e = (p .unfit e .0 ∙ sym (q .unfit e .0), ap (drop (stripBytes sh)) (p .unfit e .1 ∙ sym (q .unfit e .1)))

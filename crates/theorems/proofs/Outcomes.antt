@@ -1,0 +1,114 @@
+-- 'It is shown that one input allows one outcome only; scratch after a done call is the exception.' For each call: two outcomes that its contract allows
+-- of one input are the same. What scratch holds after a refusal is in Refusals: it is unchanged.
+--   erode-once, dilate-once, open-line-once
+--   gather-once, scatter-once
+--   open-frame-once, highest-once, directions-once, host-once
+--   list-once, next-once
+--   sums-of-line-once, sums-of-frame-once, rose-once
+-- The contract of every other call is an equation `answer ≡ definition`, which one value alone meets: `row`, `lines_of`, `sweep_of`, `span_of`,
+-- `numbered`, `turned`, `is_shallow`, `is_direction`, `is_frame`, `bytes`, `strip_bytes`, `begin`, `count`, `rose_refusal`, `summarize`, `is_outside`,
+-- `growth`, `Answer::done`, `Answer::refused`. Engines has the calls that only other crates of the library make.
+-- Assumes nothing.
+use mathlib.Core.Path.{_≡_, sym, ap, _∙_}
+use mathlib.Core.List.{List, map}
+use Prim.Native.Nat.{ℕ, _-_}
+use lib.ListN.{length}
+use lib.IntN.{ℤ}
+use Rattle.lists.specs.Stores.{front}
+use Rattle.answer.specs.declared.Answer.{Answer}
+use Rattle.answer.specs.Rules.{after}
+use Rattle.line.specs.Erosion.{ErodesLine}
+use Rattle.line.specs.Dilation.{DilatesLine}
+use Rattle.line.specs.Opening.{OpensLine}
+use Rattle.line.proofs.Laws as line
+use Rattle.frame.specs.declared.direction.Direction.{Direction}
+use Rattle.frame.specs.declared.shape.Shape.{Shape}
+use Rattle.frame.specs.Lines.{pixels, place, lineRead}
+use Rattle.frame.specs.Gathering.{Gathers}
+use Rattle.frame.specs.Scattering.{stored, Scatters}
+use Rattle.opening.specs.Frames.{OpensFrame}
+use Rattle.opening.specs.Sixteen.{FindsHighest}
+use Rattle.opening.specs.Directions.{FindsDirections}
+use Rattle.opening.specs.Host.{HostOpens}
+use Rattle.opening.proofs.Laws as opening
+use Rattle.stretch.specs.declared.Stretch.{Stretch}
+use Rattle.stretch.specs.declared.Place.{Place}
+use Rattle.stretch.specs.declared.Step.{Step}
+use Rattle.stretch.specs.Generator.{coming, Follows}
+use Rattle.stretch.specs.Listing.{ListsLine}
+use Rattle.stretch.proofs.Once.{lists-once, follows-once}
+use Rattle.sizes.specs.Sums.{lineSums, frameSums}
+use Rattle.sizes.specs.Line.{SumsLine}
+use Rattle.sizes.specs.Frame.{SumsFrame}
+use Rattle.sizes.specs.Rose.{Roses}
+
+-- what an answer settles of a buffer is one thing where the answers are one
+alike : {A : Type 0} (new old : A) {b₁ b₂ : A} {a₁ a₂ : Answer} → a₁ ≡ a₂ → b₁ ≡ after a₁ new old → b₂ ≡ after a₂ new old → b₁ ≡ b₂
+alike new old e p q = p ∙ ap (λ (a : Answer). after a new old) e ∙ sym q
+
+-- ---- lines
+
+module _ {src : List ℕ} {L : ℕ} {dst dst₁ dst₂ : List ℕ} {a₁ a₂ : Answer} where
+  pub erode-once : ErodesLine src L dst dst₁ a₁ → ErodesLine src L dst dst₂ a₂ → (a₁ ≡ a₂) × (dst₁ ≡ dst₂)
+  erode-once = line.erodes-once
+
+  pub dilate-once : DilatesLine src L dst dst₁ a₁ → DilatesLine src L dst dst₂ a₂ → (a₁ ≡ a₂) × (dst₁ ≡ dst₂)
+  dilate-once = line.dilates-once
+
+pub open-line-once : {src : List ℕ} {L : ℕ} {dst dst₁ dst₂ t t₁ t₂ : List ℕ} {a₁ a₂ : Answer} → OpensLine src L dst dst₁ t t₁ a₁ → OpensLine src L dst dst₂ t t₂ a₂
+    → (a₁ ≡ a₂) × (dst₁ ≡ dst₂)
+open-line-once = line.opens-once
+
+-- ---- frames
+
+module _ {src : List ℕ} {sh : Shape} {d : Direction} {k : ℤ} {dst dst₁ dst₂ : List ℕ} {a₁ a₂ : Answer} where
+  pub gather-once : Gathers src sh d k dst dst₁ a₁ → Gathers src sh d k dst dst₂ a₂ → (a₁ ≡ a₂) × (dst₁ ≡ dst₂)
+  gather-once p q =
+      let e : a₁ ≡ a₂ = p .answers ∙ sym (q .answers) in
+      (e, alike (front (lineRead src sh d k) dst) dst e (p .written) (q .written))
+
+  pub scatter-once : Scatters src sh d k dst dst₁ a₁ → Scatters src sh d k dst dst₂ a₂ → (a₁ ≡ a₂) × (dst₁ ≡ dst₂)
+  scatter-once p q =
+      let e : a₁ ≡ a₂ = p .answers ∙ sym (q .answers) in
+      (e, alike (stored (map (place sh) (pixels sh d k)) src dst) dst e (p .written) (q .written))
+
+module _ {f : List ℕ} {sh : Shape} {L : ℕ} {g g₁ g₂ t t₁ t₂ : List ℕ} where
+  pub open-frame-once : {d : Direction} {a₁ a₂ : Answer} → OpensFrame f sh d L g g₁ t t₁ a₁ → OpensFrame f sh d L g g₂ t t₂ a₂ → (a₁ ≡ a₂) × (g₁ ≡ g₂)
+  open-frame-once = opening.opens-once
+
+  pub highest-once : {a₁ a₂ : Answer} → FindsHighest f sh L g g₁ t t₁ a₁ → FindsHighest f sh L g g₂ t t₂ a₂ → (a₁ ≡ a₂) × (g₁ ≡ g₂)
+  highest-once = opening.highest-once
+
+  pub directions-once : {a₁ a₂ : Answer} → FindsDirections f sh L g g₁ t t₁ a₁ → FindsDirections f sh L g g₂ t t₂ a₂ → (a₁ ≡ a₂) × (g₁ ≡ g₂)
+  directions-once = opening.directions-once
+
+  pub host-once : {d : Direction} {n₁ n₂ : ℕ} → HostOpens f sh d L g g₁ t t₁ n₁ → HostOpens f sh d L g g₂ t t₂ n₂ → (n₁ ≡ n₂) × (g₁ ≡ g₂)
+  host-once = opening.host-once
+
+-- ---- stretches
+
+pub list-once : {f : List ℕ} {table table₁ table₂ : List Stretch} {t t₁ t₂ : List ℕ} {a₁ a₂ : Answer} → ListsLine f table table₁ t t₁ a₁
+    → ListsLine f table table₂ t t₂ a₂ → (a₁ ≡ a₂) × (table₁ ≡ table₂)
+list-once = lists-once
+
+-- the place and the scratch that a step leaves are settled by what comes from there
+pub next-once : {f t : List ℕ} {p : Place} {t₁ t₂ : List ℕ} {r₁ r₂ : Step} → Follows f t p t₁ r₁ → Follows f t p t₂ r₂
+    → (r₁ .found ≡ r₂ .found) × (r₁ .stretch ≡ r₂ .stretch) × (coming f t₁ (r₁ .place) ≡ coming f t₂ (r₂ .place))
+next-once = follows-once
+
+-- ---- size sums
+
+pub sums-of-line-once : {f sums sums₁ sums₂ t t₁ t₂ : List ℕ} {a₁ a₂ : Answer} → SumsLine f sums sums₁ t t₁ a₁ → SumsLine f sums sums₂ t t₂ a₂
+    → (a₁ ≡ a₂) × (sums₁ ≡ sums₂)
+sums-of-line-once {f} {sums} {a₁ = a₁} {a₂ = a₂} p q =
+    let e : a₁ ≡ a₂ = p .answers ∙ sym (q .answers) in
+    (e, alike (lineSums f (length sums - 1)) sums e (p .written) (q .written))
+
+pub sums-of-frame-once : {f : List ℕ} {sh : Shape} {d : Direction} {sums sums₁ sums₂ t t₁ t₂ : List ℕ} {a₁ a₂ : Answer} → SumsFrame f sh d sums sums₁ t t₁ a₁
+    → SumsFrame f sh d sums sums₂ t t₂ a₂ → (a₁ ≡ a₂) × (sums₁ ≡ sums₂)
+sums-of-frame-once {f} {sh} {d} {sums} {a₁ = a₁} {a₂ = a₂} p q =
+    let e : a₁ ≡ a₂ = p .answers ∙ sym (q .answers) in
+    (e, alike (frameSums f sh d (length sums - 1)) sums e (p .written) (q .written))
+
+pub rose-once : {f : List ℕ} {sh : Shape} {t t₁ t₂ : List ℕ} {r₁ r₂ : List (List ℕ)} → Roses f sh t t₁ r₁ → Roses f sh t t₂ r₂ → r₁ ≡ r₂
+rose-once p q = p .rows ∙ sym (q .rows)

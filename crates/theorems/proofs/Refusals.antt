@@ -1,0 +1,139 @@
+-- Demand 1, call by call, from the contract alone: done if and only if no rule is broken; else the first broken rule's answer, and every lent buffer as it was.
+--   erode-settled, dilate-settled, open-line-settled
+--   gather-settled, scatter-settled
+--   open-frame-settled, highest-settled, directions-settled, host-settled
+--   list-settled
+--   sums-of-line-settled, sums-of-frame-settled, rose-settled, summary-settled
+-- That a call ends, and touches only what was lent, the prover shows of every function; no statement here has to say it.
+-- Assumes nothing.
+use mathlib.Core.Path.{_≡_, refl, ap, _∙_}
+use mathlib.Core.Bool.{Bool, true, false, cond}
+use mathlib.Core.List.{List, [], _∷_}
+use Prim.Native.Nat.{ℕ, _+_, _*_, _^_}
+use lib.ListN.{length}
+use lib.IntN.{ℤ}
+use Rattle.answer.specs.declared.Answer.{Answer}
+use Rattle.answer.specs.Rules.{Rule, done, refusal, answer}
+use Rattle.answer.proofs.Rules.{Kept, numbered, kept, after-refused}
+use Rattle.line.specs.Windows.{erodedCount, dilatedCount}
+use Rattle.line.specs.Erosion.{erodeRules, ErodesLine}
+use Rattle.line.specs.Dilation.{dilateRules, DilatesLine}
+use Rattle.line.specs.Opening as line
+use Rattle.line.specs.Opening.{OpensLine}
+use Rattle.frame.specs.declared.direction.Direction.{Direction}
+use Rattle.frame.specs.declared.shape.Shape.{Shape}
+use Rattle.frame.specs.Lines.{pixels}
+use Rattle.frame.specs.Gathering.{gatherRules, Gathers}
+use Rattle.frame.specs.Scattering.{scatterRules, Scatters}
+use Rattle.opening.specs.Frames.{openRules, OpensFrame}
+use Rattle.opening.specs.Sixteen.{highestRules, FindsHighest}
+use Rattle.opening.specs.Directions.{directionRules, FindsDirections}
+use Rattle.opening.specs.Host.{HostOpens}
+use Rattle.stretch.specs.declared.Stretch.{Stretch}
+use Rattle.stretch.specs.Stretches.{stretches}
+use Rattle.stretch.specs.Listing.{listRules, ListsLine}
+use Rattle.sizes.specs.Line.{lineRules, SumsLine}
+use Rattle.sizes.specs.Frame.{frameRules, SumsFrame}
+use Rattle.sizes.specs.Rose.{roseRules, darkRose, Roses}
+use Rattle.sizes.specs.declared.summary.Summary.{Summary}
+use Rattle.sizes.specs.Summary.{summaryRules, refusedBy, summaryOf}
+use Rattle.theorems.specs.Settled.{Breaks, Settled}
+
+-- ---- the rules of any call
+
+done-kept : (rs : List Rule) (f : ℕ) → Kept rs → answer rs f ≡ done f
+done-kept [] f k = refl
+done-kept (r ∷ rs) f k = rw (k .0) (done-kept rs f (k .1))
+
+first-broken : (rs : List Rule) (f : ℕ) → (answer rs f .number ≡ 0 → ⊥) → Breaks rs (answer rs f)
+first-broken [] f refused = absurd (refused refl)
+first-broken (r ∷ rs) f refused = go (first-broken rs f) (r .broken) refl refused
+  where
+    go : ((answer rs f .number ≡ 0 → ⊥) → Breaks rs (answer rs f)) → (b : Bool) → r .broken ≡ b
+        → (cond b (refusal (r .number) (r .figure)) (answer rs f) .number ≡ 0 → ⊥) → Breaks (r ∷ rs) (cond b (refusal (r .number) (r .figure)) (answer rs f))
+    go ih true e no-work = record { before = []; first = r; behind = rs; is = refl; kept = tt; broken = e; answers = refl }
+    go ih false e no-work =
+        let later = ih no-work in
+        record {
+          before = r ∷ later .before;
+          first = later .first;
+          behind = later .behind;
+          is = ap (λ (l : List Rule). r ∷ l) (later .is);
+          kept = (e, later .kept);
+          broken = later .broken;
+          answers = later .answers;
+        }
+
+settled : (rs : List Rule) (f : ℕ) {a : Answer} {Same : Type 0} → numbered rs ≡ true → a ≡ answer rs f → ((a .number ≡ 0 → ⊥) → Same) → Settled rs f a Same
+settled rs f {a} n e same =
+    record {
+      done-if = λ k. e ∙ done-kept rs f k;
+      only-if = λ z. kept rs f n (rw e at z);
+      refused = λ r. (rw e (first-broken rs f (rw e at r)), same r);
+    }
+
+-- ---- the calls
+
+module _ {src dst dst′ : List ℕ} {L : ℕ} {a : Answer} where
+  pub erode-settled : ErodesLine src L dst dst′ a → Settled (erodeRules (length src) L (length dst)) (erodedCount (length src) L) a (dst′ ≡ dst)
+  erode-settled p = settled _ _ refl (p .answers) (λ r. p .written ∙ after-refused a _ dst r)
+
+  pub dilate-settled : DilatesLine src L dst dst′ a → Settled (dilateRules (length src) L (length dst)) (dilatedCount (length src) L) a (dst′ ≡ dst)
+  dilate-settled p = settled _ _ refl (p .answers) (λ r. p .written ∙ after-refused a _ dst r)
+
+pub open-line-settled : {src dst dst′ scratch scratch′ : List ℕ} {L : ℕ} {a : Answer} → OpensLine src L dst dst′ scratch scratch′ a
+    → Settled (line.openRules (length src) L (length dst) (length scratch)) 0 a ((dst′ ≡ dst) × (scratch′ ≡ scratch))
+open-line-settled {dst = dst} {scratch = scratch} {a = a} p =
+    settled _ _ refl (p .answers) (λ r. (p .written ∙ after-refused a _ dst r, p .scratch-kept ∙ after-refused a _ scratch r))
+
+module _ {src : List ℕ} {sh : Shape} {d : Direction} {k : ℤ} {dst dst′ : List ℕ} {a : Answer} where
+  pub gather-settled : Gathers src sh d k dst dst′ a → Settled (gatherRules sh d k (length src) (length dst)) (length (pixels sh d k)) a (dst′ ≡ dst)
+  gather-settled p = settled _ _ refl (p .answers) (λ r. p .written ∙ after-refused a _ dst r)
+
+  pub scatter-settled : Scatters src sh d k dst dst′ a → Settled (scatterRules sh d k (length src) (length dst)) (length (pixels sh d k)) a (dst′ ≡ dst)
+  scatter-settled p = settled _ _ refl (p .answers) (λ r. p .written ∙ after-refused a _ dst r)
+
+module _ {f : List ℕ} {sh : Shape} {L : ℕ} {g g′ t t′ : List ℕ} where
+  pub open-frame-settled : {d : Direction} {a : Answer} → OpensFrame f sh d L g g′ t t′ a
+      → Settled (openRules sh d L (length f) (length g) (length t)) 0 a ((g′ ≡ g) × (t′ ≡ t))
+  open-frame-settled p = settled _ _ refl (p .answers) (p .refused)
+
+  pub highest-settled : {a : Answer} → FindsHighest f sh L g g′ t t′ a → Settled (highestRules sh L (length f) (length g) (length t)) 0 a ((g′ ≡ g) × (t′ ≡ t))
+  highest-settled p = settled _ _ refl (p .answers) (p .refused)
+
+  pub directions-settled : {a : Answer} → FindsDirections f sh L g g′ t t′ a
+      → Settled (directionRules sh L (length f) (length g) (length t)) 0 a ((g′ ≡ g) × (t′ ≡ t))
+  directions-settled p = settled _ _ refl (p .answers) (p .refused)
+
+  -- 'one 64-bit number back: the refusal number times 2^32, plus the figure'
+  pub host-settled : {d : Direction} {n : ℕ} (p : HostOpens f sh d L g g′ t t′ n)
+      → Settled (openRules sh d L (length f) (length g) (length t)) 0 (p .a) ((g′ ≡ g) × (t′ ≡ t)) × (n ≡ p .a .number * 2 ^ 32 + p .a .figure)
+  host-settled p = (open-frame-settled (p .opens), p .gives)
+
+pub list-settled : {f : List ℕ} {table table′ : List Stretch} {t t′ : List ℕ} {a : Answer} → ListsLine f table table′ t t′ a
+    → Settled (listRules (length f) (length t) (length table) (length (stretches f))) (length (stretches f)) a ((table′ ≡ table) × (t′ ≡ t))
+list-settled {table = table} {t = t} {a = a} p =
+    settled _ _ refl (p .answers) (λ r. (p .written ∙ after-refused a _ table r, p .scratch-kept ∙ after-refused a _ t r))
+
+pub sums-of-line-settled : {f sums sums′ t t′ : List ℕ} {a : Answer} → SumsLine f sums sums′ t t′ a
+    → Settled (lineRules (length f) (length sums) (length t)) 0 a ((sums′ ≡ sums) × (t′ ≡ t))
+sums-of-line-settled {sums = sums} {t = t} {a = a} p =
+    settled _ _ refl (p .answers) (λ r. (p .written ∙ after-refused a _ sums r, p .scratch-kept ∙ after-refused a _ t r))
+
+pub sums-of-frame-settled : {f : List ℕ} {sh : Shape} {d : Direction} {sums sums′ t t′ : List ℕ} {a : Answer} → SumsFrame f sh d sums sums′ t t′ a
+    → Settled (frameRules sh d (length sums) (length f) (length t)) 0 a ((sums′ ≡ sums) × (t′ ≡ t))
+sums-of-frame-settled {sums = sums} {t = t} {a = a} p =
+    settled _ _ refl (p .answers) (λ r. (p .written ∙ after-refused a _ sums r, p .scratch-kept ∙ after-refused a _ t r))
+
+-- the answer is the one that `rose_refusal` gives; 'A refused rose is a table of 64-bit largest numbers'
+pub rose-settled : {f : List ℕ} {sh : Shape} {t t′ : List ℕ} {r : List (List ℕ)} → Roses f sh t t′ r
+    → Settled (roseRules sh (length f) (length t)) 0 (answer (roseRules sh (length f) (length t)) 0) ((r ≡ darkRose) × (t′ ≡ t))
+rose-settled {f} {sh} {t} p =
+    let a = answer (roseRules sh (length f) (length t)) 0 in
+    settled _ _ refl refl (λ r. (p .rows ∙ after-refused a _ darkRose r, p .scratch-kept ∙ after-refused a _ t r))
+
+-- 'a refused summary has both floats 0'
+pub summary-settled : (s : List ℕ) {r : Summary} → r ≡ summaryOf s
+    → Settled (summaryRules s) 0 (answer (summaryRules s) 0) (r ≡ refusedBy (answer (summaryRules s) 0 .number))
+unfolding summaryOf
+summary-settled s e = settled _ _ refl refl (λ r. e ∙ after-refused (answer (summaryRules s) 0) _ (refusedBy (answer (summaryRules s) 0 .number)) r)

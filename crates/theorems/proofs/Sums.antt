@@ -1,0 +1,109 @@
+-- Demand 2, size sums: what done calls put into the sums slice, from their contracts alone; and the rose and the summary.
+--   line-bin, line-rest, line-whole      each bin and the rest of a line; together they are the light in the line
+--   frame-bin, frame-rest, frame-whole   the same of a frame in a direction; frame-sum-opened: its sum for a length is the light of the opened frame
+--   rose-row, rose-whole                 each row of a done rose; rose-unmarked: no entry of it is the mark of a refused rose
+--   summary-is                           mean and share of a done summary
+-- Demand 3's last sentence, bins and rest from the list of stretches, is in Stretches.
+-- Assumes nothing.
+use mathlib.Core.Path.{_≡_, refl, sym, ap, _∙_}
+use mathlib.Core.List.{List, []}
+use Prim.Native.Nat.{ℕ, suc, _+_, _-_, _≤_, _<_, _^_}
+use lib.IntN.{pos, _+ℤ_}
+use lib.ListN.{length, getD}
+use Rattle.lists.specs.Extremes.{total}
+use Rattle.lists.proofs.Tables.{getD-table, table-same}
+use Rattle.answer.specs.declared.Answer.{Answer}
+use Rattle.answer.specs.Rules.{answer}
+use Rattle.answer.proofs.Rules.{Kept, after-done}
+use Rattle.frame.specs.declared.direction.Direction.{Direction}
+use Rattle.frame.specs.declared.shape.Shape.{Shape}
+use Rattle.frame.specs.Direction.{numberedOf}
+use Rattle.frame.specs.Lines.{light, firstLine, lineCount}
+use Rattle.frame.specs.Sweep.{Accepted}
+use Rattle.frame.proofs.Directions.{numbered-accepted}
+use Rattle.frame.proofs.Light.{lines-light}
+use Rattle.opening.specs.Frames.{OpensFrame}
+use Rattle.opening.proofs.Calls.{open-ready}
+use Rattle.bridge.specs.Sums.{sumFor, binFor, restFor}
+use Rattle.sizes.specs.Sums.{lineSums, frameSum, frameSums}
+use Rattle.sizes.specs.Line.{SumsLine}
+use Rattle.sizes.specs.Frame.{SumsFrame}
+use Rattle.sizes.specs.Rose.{roseRules, roseOf, darkRose, Roses}
+use Rattle.sizes.specs.declared.summary.Summary.{Summary}
+use Rattle.sizes.specs.Summary.{binsOf, restOf, weighted, over, summaryRules, summaryOf}
+use Rattle.sizes.proofs.Bins.{sums-bin, sums-rest, line-total}
+use Rattle.sizes.proofs.Calls.{frame-fits}
+use Rattle.sizes.proofs.Gathered.{frame-total}
+use Rattle.sizes.proofs.Petals.{rose-fits, sum-never-largest}
+use Rattle.theorems.proofs.Refusals.{rose-settled, summary-settled}
+use Rattle.theorems.proofs.Openings.{frame-lines}
+
+-- K bins and the rest
+module _ {f sums sums′ t t′ : List ℕ} {a : Answer} (p : SumsLine f sums sums′ t t′ a) (z : a .number ≡ 0) where
+  line-filled : sums′ ≡ lineSums f (length sums - 1)
+  line-filled = p .written ∙ after-done a (lineSums f (length sums - 1)) sums z
+
+  -- 'the bin for a length is the sum for that length less the sum for the next'
+  pub line-bin : (j : ℕ) → j < length sums - 1 → getD sums′ j 0 ≡ binFor f (suc j)
+  line-bin j h = ap (λ (l : List ℕ). getD l j 0) line-filled ∙ sums-bin (sumFor f) (length sums - 1) j h
+
+  -- 'the rest is the sum for length K+1'; 'the rest last'
+  pub line-rest : getD sums′ (length sums - 1) 0 ≡ restFor f (length sums - 1)
+  line-rest = ap (λ (l : List ℕ). getD l (length sums - 1) 0) line-filled ∙ sums-rest (sumFor f) (length sums - 1)
+
+  -- 'Bins and rest together equal the total of the source pixels.'
+  pub line-whole : total sums′ ≡ total f
+  line-whole = ap total line-filled ∙ line-total f (length sums - 1)
+
+module _ {f : List ℕ} {sh : Shape} {d : Direction} {sums sums′ t t′ : List ℕ} {a : Answer} (p : SumsFrame f sh d sums sums′ t t′ a) (z : a .number ≡ 0) where
+  frame-filled : sums′ ≡ frameSums f sh d (length sums - 1)
+  frame-filled = p .written ∙ after-done a (frameSums f sh d (length sums - 1)) sums z
+
+  pub frame-bin : (j : ℕ) → j < length sums - 1 → getD sums′ j 0 ≡ frameSum f sh d (suc j) - frameSum f sh d (suc (suc j))
+  frame-bin j h = ap (λ (l : List ℕ). getD l j 0) frame-filled ∙ sums-bin (frameSum f sh d) (length sums - 1) j h
+
+  pub frame-rest : getD sums′ (length sums - 1) 0 ≡ frameSum f sh d (suc (length sums - 1))
+  frame-rest = ap (λ (l : List ℕ). getD l (length sums - 1) 0) frame-filled ∙ sums-rest (frameSum f sh d) (length sums - 1)
+
+  pub frame-whole : total sums′ ≡ light f sh
+  frame-whole = ap total frame-filled ∙ frame-total f sh d (length sums - 1) (frame-fits sh d (length sums) (length f) (length t) (p .answers) z .0 .ok)
+
+-- 'The sum for a length is the total of the opened pixels.': of a frame, those that `open_frame` leaves for that direction and length
+pub frame-sum-opened : {f : List ℕ} {sh : Shape} {d : Direction} {L : ℕ} {g g′ t t′ : List ℕ} {a : Answer} → OpensFrame f sh d L g g′ t t′ a → a .number ≡ 0
+    → frameSum f sh d L ≡ light g′ sh
+frame-sum-opened {f} {sh} {d} {L} {g} {g′} {t} p z =
+    sym (ap total (table-same _ _ (lineCount sh d) (λ u l. ap total (frame-lines p z (firstLine sh d +ℤ pos u)))))
+    ∙ lines-light g′ sh d (open-ready sh L (length f) (length g) (length t) d (p .answers) z .ok)
+
+-- ---- the rose
+
+module _ {f : List ℕ} {sh : Shape} {t t′ : List ℕ} {r : List (List ℕ)} (p : Roses f sh t t′ r) (ok : Kept (roseRules sh (length f) (length t))) where
+  zero-number : answer (roseRules sh (length f) (length t)) 0 .number ≡ 0
+  zero-number = ap (λ (a : Answer). a .number) (rose-settled p .done-if ok)
+
+  -- 'row d has 32 bins and the rest of numbered direction d'
+  pub rose-row : (n : ℕ) → n < 16 → getD r n [] ≡ frameSums f sh (numberedOf n) 32
+  rose-row n h =
+      ap (λ (l : List (List ℕ)). getD l n []) (p .rows ∙ after-done (answer (roseRules sh (length f) (length t)) 0) (roseOf f sh) darkRose zero-number)
+      ∙ getD-table [] (λ (n : ℕ). frameSums f sh (numberedOf n) 32) 16 n h
+
+  accepted : (n : ℕ) → n < 16 → Accepted sh (numberedOf n)
+  accepted n h = record { frame = rose-fits sh (length f) (length t) refl zero-number .frame; direction = numbered-accepted n h }
+
+  pub rose-whole : (n : ℕ) → n < 16 → total (getD r n []) ≡ light f sh
+  rose-whole n h =
+      ap total (rose-row n h) ∙ frame-total f sh (numberedOf n) 32 (accepted n h)
+
+  -- 'a table of 64-bit largest numbers, which no sum reaches'
+  pub rose-unmarked : ((i : ℕ) → getD f i 0 ≤ 255) → (n j : ℕ) → n < 16 → getD (getD r n []) j 0 < 2 ^ 64 - 1
+  rose-unmarked bytes n j h = rw (rose-row n h) (sum-never-largest f sh (numberedOf n) 32 j (accepted n h) bytes)
+
+-- ---- the summary
+
+-- 'the mean, B as a float divided by A as a float, and the share, A divided by A plus the rest'
+pub summary-is : (s : List ℕ) {r : Summary} → r ≡ summaryOf s → Kept (summaryRules s)
+    → r ≡ record { mean = over (weighted 1 (binsOf s)) (total (binsOf s)); share = over (total (binsOf s)) (total (binsOf s) + restOf s); number = 0 }
+unfolding summaryOf
+summary-is s e ok =
+    let z : answer (summaryRules s) 0 .number ≡ 0 = ap (λ (a : Answer). a .number) (summary-settled s e .done-if ok) in
+    e ∙ after-done (answer (summaryRules s) 0) _ _ z

@@ -1,0 +1,229 @@
+-- 'Versions to be shown unprovable': on an input that is written out, the contract does not allow the outcome of that version.
+-- That it allows some outcome of every input, the proved code shows.
+--   refusing-..                       a call that refuses everything, for each numbered call, the rose and the summary
+--   line-dark, line-copied, line-unwritten        an opening of a line that is 0 everywhere, that copies its source, that writes no pixel
+--   frame-dark, frame-copied, frame-unwritten     the same of a frame
+--   first-row-only, first-line-only   a frame opening that treats its first line and copies the rest, along and on the diagonal
+--   count-invented, whole-line-only   a listing with an invented count, or with only the whole line
+--   across-for-along, tie-to-last     directions filed under each other's name, or a tie given to the last
+-- Assumes nothing.
+use mathlib.Core.Path.{_≡_, refl, sym, ap, _∙_}
+use mathlib.Core.Bool.{true}
+use mathlib.Core.List.{List, [], _∷_}
+use Prim.Native.Nat.{ℕ, _-_, _^_}
+use native.Mathlib.Omega.{arith}
+use lib.IntN.{pos}
+use lib.ListN.{getD, replicate}
+use Rattle.lists.specs.Tables as tables
+use Rattle.lists.specs.Extremes as extremes
+use Rattle.lists.specs.Stores.{front}
+use Rattle.answer.specs.declared.Answer.{Answer}
+use Rattle.answer.specs.Rules.{done, after}
+use Rattle.line.specs.Windows as windows
+use Rattle.line.specs.Windows.{opened}
+use Rattle.line.specs.Erosion.{ErodesLine}
+use Rattle.line.specs.Dilation.{DilatesLine}
+use Rattle.line.specs.Opening.{OpensLine}
+use Rattle.frame.specs.declared.direction.Direction.{Direction}
+use Rattle.frame.specs.declared.shape.Shape.{Shape}
+use Rattle.frame.specs.Direction.{dir, along, isDirection}
+use Rattle.frame.specs.Shape.{shape}
+use Rattle.frame.specs.Lines as lines
+use Rattle.frame.specs.Gathering.{Gathers}
+use Rattle.frame.specs.Scattering.{Scatters}
+use Rattle.strips.specs.Pixels as strips
+use Rattle.strips.specs.Pixels.{openedPixel, Painted}
+use Rattle.opening.specs.Pixels as leading
+use Rattle.opening.specs.Frames.{OpensFrame}
+use Rattle.opening.specs.Sixteen.{FindsHighest}
+use Rattle.opening.specs.Directions.{FindsDirections}
+use Rattle.stretch.specs.declared.Stretch.{Stretch}
+use Rattle.stretch.specs.Stretches as stretching
+use Rattle.stretch.specs.Stretches.{stretches}
+use Rattle.stretch.specs.Listing.{ListsLine}
+use Rattle.sizes.specs.Line.{SumsLine}
+use Rattle.sizes.specs.Frame.{SumsFrame}
+use Rattle.sizes.specs.Rose.{darkRose, Roses}
+use Rattle.sizes.specs.declared.summary.Summary.{Summary}
+use Rattle.sizes.specs.Summary.{weighted, summaryOf}
+use Rattle.theorems.specs.Marked.{line, s}
+
+-- five bytes that a call may write to, and scratch for a line of five pixels
+abbrev nines : List ℕ
+nines = 9 ∷ 9 ∷ 9 ∷ 9 ∷ 9 ∷ []
+
+abbrev spare : List ℕ
+spare = replicate 40 0
+
+-- a frame of 3 by 3 pixels, its rows 4 bytes apart, with a strand from corner to corner; 7 between the rows
+abbrev small : Shape
+small = shape 3 3 4
+
+abbrev strand : List ℕ
+strand =
+    9 ∷ 1 ∷ 1 ∷ 7
+    ∷ 1 ∷ 9 ∷ 1 ∷ 7
+    ∷ 1 ∷ 1 ∷ 9 ∷ []
+
+-- a frame that a call may write to
+abbrev sixes : List ℕ
+sixes =
+    6 ∷ 6 ∷ 6 ∷ 8
+    ∷ 6 ∷ 6 ∷ 6 ∷ 8
+    ∷ 6 ∷ 6 ∷ 6 ∷ []
+
+abbrev diagonal : Direction
+diagonal = dir (pos 1) (pos 1)
+
+-- ---- 'a call that refuses everything (the exact conditions of the table, demand 1)'
+
+abbrev Refused : Answer → Type 0
+Refused a = a .number ≡ 0 → ⊥
+
+answered : {a b : Answer} → a ≡ b → b .number ≡ 0 → Refused a → ⊥
+answered e z refused = refused (ap (λ (a : Answer). a .number) e ∙ z)
+
+module _ {g′ : List ℕ} {a : Answer} where
+  pub refusing-erode : ErodesLine line 2 nines g′ a → Refused a → ⊥
+  refusing-erode p = answered (p .answers) refl
+
+  pub refusing-dilate : DilatesLine (3 ∷ 5 ∷ 2 ∷ 2 ∷ []) 2 nines g′ a → Refused a → ⊥
+  refusing-dilate p = answered (p .answers) refl
+
+  pub refusing-gather : Gathers strand small diagonal (pos 0) nines g′ a → Refused a → ⊥
+  unfolding tables.each lines.r
+  refusing-gather p = answered (p .answers) refl
+
+  pub refusing-scatter : Scatters nines small diagonal (pos 0) sixes g′ a → Refused a → ⊥
+  unfolding tables.each lines.r
+  refusing-scatter p = answered (p .answers) refl
+
+module _ {g′ t′ : List ℕ} {a : Answer} where
+  pub refusing-open-line : OpensLine line 2 nines g′ spare t′ a → Refused a → ⊥
+  refusing-open-line p = answered (p .answers) refl
+
+  pub refusing-open-frame : OpensFrame strand small diagonal 3 sixes g′ spare t′ a → Refused a → ⊥
+  refusing-open-frame p = answered (p .answers) refl
+
+  pub refusing-highest : FindsHighest strand small 3 sixes g′ spare t′ a → Refused a → ⊥
+  refusing-highest p = answered (p .answers) refl
+
+  pub refusing-directions : FindsDirections strand small 3 sixes g′ spare t′ a → Refused a → ⊥
+  refusing-directions p = answered (p .answers) refl
+
+  pub refusing-sums-of-line : SumsLine line nines g′ spare t′ a → Refused a → ⊥
+  refusing-sums-of-line p = answered (p .answers) refl
+
+  pub refusing-sums-of-frame : SumsFrame strand small diagonal nines g′ spare t′ a → Refused a → ⊥
+  refusing-sums-of-frame p = answered (p .answers) refl
+
+-- a refused rose has the largest number in every entry
+pub refusing-rose : {t′ : List ℕ} → Roses strand small spare t′ darkRose → ⊥
+unfolding tables.each extremes.least extremes.greatest extremes.total windows.opened lines.r
+refusing-rose p =
+    let first : _≡_ {A = ℕ} (2 ^ 64 - 1) 24 = ap (λ (r : List (List ℕ)). getD (getD r 0 []) 0 0) (p .rows) in
+    omega (arith, first)
+
+pub refusing-summary : {r : Summary} → r ≡ summaryOf (2 ∷ 4 ∷ 3 ∷ 10 ∷ []) → (r .number ≡ 0 → ⊥) → ⊥
+unfolding summaryOf extremes.total weighted
+refusing-summary e refused = refused (ap (λ (r : Summary). r .number) e)
+
+-- a table of as many entries as the line 3 5 5 2 4 has stretches
+abbrev blank : List Stretch
+blank = replicate 4 (s 0 0 0 0)
+
+pub refusing-list : {table′ : List Stretch} {t′ : List ℕ} {a : Answer} → ListsLine line blank table′ spare t′ a → Refused a → ⊥
+unfolding tables.each extremes.least extremes.greatest stretching.levelOf stretching.isStretch stretching.stretchOf stretching.endingAt stretching.stretches
+refusing-list p = answered (p .answers) refl
+
+-- ---- 'an opening that is 0 everywhere, or that copies its source (demand 2); one that writes no pixel (demand 2)', of a line
+
+-- what the contract asks for: P2
+opened-line : {g′ t′ : List ℕ} {a : Answer} → OpensLine line 2 nines g′ spare t′ a → g′ ≡ 3 ∷ 5 ∷ 5 ∷ 2 ∷ 2 ∷ []
+unfolding tables.each extremes.least extremes.greatest windows.opened
+opened-line p = p .written ∙ ap (λ (a : Answer). after a (front (opened line 2) nines) nines) (p .answers)
+
+-- two lists that differ at a place are not the same
+differ : {g h : List ℕ} (i : ℕ) → (getD g i 0 ≡ getD h i 0 → ⊥) → g ≡ h → ⊥
+differ i unlike e = unlike (ap (λ (l : List ℕ). getD l i 0) e)
+
+module _ {t′ : List ℕ} {a : Answer} where
+  pub line-dark : OpensLine line 2 nines (0 ∷ 0 ∷ 0 ∷ 0 ∷ 0 ∷ []) spare t′ a → ⊥
+  line-dark p = differ 0 (λ e. omega arith) (opened-line p)
+
+  pub line-copied : OpensLine line 2 nines line spare t′ a → ⊥
+  line-copied p = differ 4 (λ e. omega arith) (opened-line p)
+
+  pub line-unwritten : OpensLine line 2 nines nines spare t′ a → ⊥
+  line-unwritten p = differ 0 (λ e. omega arith) (opened-line p)
+
+-- ---- the same of a frame, and 'a frame opening that treats its first line and copies the rest (demand 2, each pixel on its line)'
+
+painted : {d : Direction} {g′ t′ : List ℕ} {a : Answer} → isDirection d ≡ true → OpensFrame strand small d 3 sixes g′ spare t′ a
+    → Painted small (openedPixel strand small d 3) sixes g′
+painted ok p = p .done (ap (λ (a : Answer). a .number) (p .answers) ∙ rw ok)
+
+module _ {t′ : List ℕ} {a : Answer} where
+  pub frame-dark : OpensFrame strand small diagonal 3 sixes (0 ∷ 0 ∷ 0 ∷ 8 ∷ 0 ∷ 0 ∷ 0 ∷ 8 ∷ 0 ∷ 0 ∷ 0 ∷ []) spare t′ a → ⊥
+  unfolding tables.each extremes.least extremes.greatest windows.opened lines.r strips.indexIn strips.openedPixel
+  frame-dark p = let corner : _≡_ {A = ℕ} 0 9 = painted refl p .pixels 0 0 (omega arith) (omega arith) in omega (arith, corner)
+
+  pub frame-copied : OpensFrame strand small diagonal 3 sixes (9 ∷ 1 ∷ 1 ∷ 8 ∷ 1 ∷ 9 ∷ 1 ∷ 8 ∷ 1 ∷ 1 ∷ 9 ∷ []) spare t′ a → ⊥
+  unfolding tables.each extremes.least extremes.greatest windows.opened lines.r strips.indexIn strips.openedPixel
+  frame-copied p = let beside : _≡_ {A = ℕ} 1 0 = painted refl p .pixels 1 0 (omega arith) (omega arith) in omega (arith, beside)
+
+  pub frame-unwritten : OpensFrame strand small diagonal 3 sixes sixes spare t′ a → ⊥
+  unfolding tables.each extremes.least extremes.greatest windows.opened lines.r strips.indexIn strips.openedPixel
+  frame-unwritten p = let corner : _≡_ {A = ℕ} 6 9 = painted refl p .pixels 0 0 (omega arith) (omega arith) in omega (arith, corner)
+
+  -- the first line is row 0
+  pub first-row-only : OpensFrame strand small along 3 sixes (1 ∷ 1 ∷ 1 ∷ 8 ∷ 1 ∷ 9 ∷ 1 ∷ 8 ∷ 1 ∷ 1 ∷ 9 ∷ []) spare t′ a → ⊥
+  unfolding tables.each extremes.least extremes.greatest windows.opened lines.r strips.indexIn strips.openedPixel
+  first-row-only p = let middle : _≡_ {A = ℕ} 9 1 = painted refl p .pixels 1 1 (omega arith) (omega arith) in omega (arith, middle)
+
+  -- the first line is number −2, the pixel (2, 0)
+  pub first-line-only : OpensFrame strand small diagonal 3 sixes (9 ∷ 1 ∷ 0 ∷ 8 ∷ 1 ∷ 9 ∷ 1 ∷ 8 ∷ 1 ∷ 1 ∷ 9 ∷ []) spare t′ a → ⊥
+  unfolding tables.each extremes.least extremes.greatest windows.opened lines.r strips.indexIn strips.openedPixel
+  first-line-only p = let beside : _≡_ {A = ℕ} 1 0 = painted refl p .pixels 1 0 (omega arith) (omega arith) in omega (arith, beside)
+
+-- ---- 'a listing with an invented count or only the whole line (demand 3)'
+
+module _ {table′ : List Stretch} {t′ : List ℕ} {a : Answer} where
+  -- the count is 4, and nothing else
+  pub count-invented : (n : ℕ) → (n ≡ 4 → ⊥) → ListsLine line blank table′ spare t′ a → a ≡ done n → ⊥
+  unfolding tables.each extremes.least extremes.greatest stretching.levelOf stretching.isStretch stretching.stretchOf stretching.endingAt stretching.stretches
+  count-invented n not-four p e = not-four (ap (λ (a : Answer). a .figure) (sym e ∙ p .answers))
+
+pub whole-line-only : {rest : List Stretch} {t′ : List ℕ} {a : Answer} → ListsLine line blank (s 0 5 2 0 ∷ rest) spare t′ a → ⊥
+unfolding tables.each extremes.least extremes.greatest stretching.levelOf stretching.isStretch stretching.stretchOf stretching.endingAt stretching.stretches
+whole-line-only {rest} p =
+    let e : s 0 5 2 0 ∷ rest ≡ s 1 3 5 3 ∷ s 0 3 3 2 ∷ s 4 5 4 2 ∷ s 0 5 2 0 ∷ [] =
+    p .written ∙ ap (λ (a : Answer). after a (front (stretches line) blank) blank) (p .answers) in
+    let first : _≡_ {A = ℕ} 0 1 = ap (λ (l : List Stretch). getD l 0 (s 0 0 0 0) .start) e in
+    omega (arith, first)
+
+-- ---- 'Directions filed in order of arrival, or a tie given to the last' (a trap that no marked example holds)
+
+-- a bright row
+abbrev bar : List ℕ
+bar =
+    1 ∷ 1 ∷ 1 ∷ 7
+    ∷ 9 ∷ 9 ∷ 9 ∷ 7
+    ∷ 1 ∷ 1 ∷ 1 ∷ []
+
+module _ {rest t′ : List ℕ} {a : Answer} where
+  -- what is opened across, under the name of along: pixel (0, 0) may be 1, (0, 1) may not
+  pub across-for-along : OpensFrame bar small along 3 sixes (1 ∷ 1 ∷ 1 ∷ 8 ∷ 1 ∷ rest) spare t′ a → ⊥
+  unfolding tables.each extremes.least extremes.greatest windows.opened lines.r strips.indexIn strips.openedPixel
+  across-for-along p =
+      let z : a .number ≡ 0 = ap (λ (a : Answer). a .number) (p .answers) in
+      let below : _≡_ {A = ℕ} 1 9 = p .done z .pixels 0 1 (omega arith) (omega arith) in
+      omega (arith, below)
+
+  -- 3, 4 and 5 all hold the diagonal of a frame of 3 by 3 pixels; the lowest number has it
+  pub tie-to-last : FindsDirections strand small 3 sixes (5 ∷ rest) spare t′ a → ⊥
+  unfolding tables.each extremes.least extremes.greatest windows.opened lines.r strips.indexIn strips.openedPixel leading.firstGreatest
+  tie-to-last p =
+      let z : a .number ≡ 0 = ap (λ (a : Answer). a .number) (p .answers) in
+      let corner : _≡_ {A = ℕ} 5 3 = p .done z .pixels 0 0 (omega arith) (omega arith) in
+      omega (arith, corner)
