@@ -68,7 +68,8 @@ module _ (op : ℕ → ℕ → ℕ) (m : List ℕ) (at near far : ℕ) (g : List
         above = λ x h. p .above x (omega arith) ∙ f .above x (omega arith);
       }
 
-  pub met-first : {mid n : ℕ} → Filled g a mid (at + n) (met op m g at near far) → at ≤ mid → mid ≤ at + 16 → 16 ≤ n → i ≡ 0 → Filled g b at (at + n) (met op m g at near far)
+  pub met-first : {mid n : ℕ} → Filled g a mid (at + n) (met op m g at near far) → at ≤ mid → mid ≤ at + 16 → 16 ≤ n → i ≡ 0
+      → Filled g b at (at + n) (met op m g at near far)
   met-first {mid} {n} f low high some start =
       record {
         same = p .same ∙ f .same;

@@ -32,7 +32,7 @@ use Rattle.frame.specs.Sweep.{shift, Sane}
 use Rattle.frame.proofs.Rounding.{r-up}
 use Rattle.frame.proofs.Spans.{shift-falling, shift-rising}
 use Rattle.rows.specs.Rows.{spot, laneAt, PixelsAre, RowsAre, rowsOf}
-use Rattle.rows.specs.Passes.{eroding, dilating, Slanted, startOf, aheadAt, rowsOn, Bends, onward, backward, eroded, dilated, bent, Ahead, Behind}
+use Rattle.rows.specs.Passes.{eroding, dilating, Slanted, startOf, rowStart, aheadAt, rowsOn, Bends, onward, backward, eroded, dilated, bent, Ahead, Behind}
 use Rattle.rows.proofs.Rowwise.{Parted, parted-rows, row-kept, row-room, rows-more}
 use Rattle.rows.proofs.Lines.{lane-in, lane-left, lane-right, columns-pixels, pixels-as}
 
@@ -130,7 +130,7 @@ module _ (s : Sweep) (up : Bool) (m : List ℕ) (e d : ℕ) (g : List ℕ) (t : 
       (less-or-not x e)
 
   -- both rows are in the frame; column j of them stands c bytes behind their starts
-  chosen-both : (near far c j x : ℕ) → t + d + 1 < s .minors → near ≡ startOf up (s .minors) (s .minor) (t + d) + c → far ≡ startOf up (s .minors) (s .minor) (t + (d + 1)) + c
+  chosen-both : (near far c j x : ℕ) → t + d + 1 < s .minors → near ≡ rowStart s up (t + d) + c → far ≡ rowStart s up (t + (d + 1)) + c
       → j ≡ x + c → bent m g near far x ≡ aheadAt up (s .minors) (s .minor) g t j (rowsOn d m x)
   unfolding bent
   chosen-both near far c j x in′ en ef ej =
@@ -141,7 +141,7 @@ module _ (s : Sweep) (up : Bool) (m : List ℕ) (e d : ℕ) (g : List ℕ) (t : 
       (λ q. ap (λ (y : ℕ). getD g y 0) (omega (arith, ef, ej)) ∙ sym (ahead-in up (s .minors) (s .minor) g t j (d + 1) (omega arith)))
 
   -- only the near row is
-  chosen-last : (near c j x : ℕ) → t + d < s .minors → s .minors ≤ t + d + 1 → near ≡ startOf up (s .minors) (s .minor) (t + d) + c → j ≡ x + c
+  chosen-last : (near c j x : ℕ) → t + d < s .minors → s .minors ≤ t + d + 1 → near ≡ rowStart s up (t + d) + c → j ≡ x + c
       → cond (eqb (getD m x 0) 0) (getD g (near + x) 0) 0 ≡ aheadAt up (s .minors) (s .minor) g t j (rowsOn d m x)
   chosen-last near c j x in′ last en ej =
       bool-cases
@@ -150,16 +150,17 @@ module _ (s : Sweep) (up : Bool) (m : List ℕ) (e d : ℕ) (g : List ℕ) (t : 
       (λ q. ap (λ (y : ℕ). getD g y 0) (omega (arith, en, ej)) ∙ sym (ahead-in up (s .minors) (s .minor) g t j d in′))
       (λ q. sym (ahead-out up (s .minors) (s .minor) g t j (d + 1) (omega arith)))
 
-  module _ (at : ℕ) (here : at ≡ startOf up (s .minors) (s .minor) t) (room : at + s .majors ≤ length g) where
+  module _ (at : ℕ) (here : at ≡ rowStart s up t) (room : at + s .majors ≤ length g) where
     -- the row by its start
     settled : {g′ : List ℕ} (F : ℕ → ℕ) → Filled g g′ at (at + s .majors) (λ (x : ℕ). F (x - at))
-        → Filled g g′ (startOf up (s .minors) (s .minor) t) (startOf up (s .minors) (s .minor) t + s .majors) (λ (x : ℕ). F (x - startOf up (s .minors) (s .minor) t))
+        → Filled g g′ (rowStart s up t) (rowStart s up t + s .majors) (λ (x : ℕ). F (x - rowStart s up t))
     settled {g′} F f = subst (λ (p : ℕ). Filled g g′ p (p + s .majors) (λ (x : ℕ). F (x - p))) here f
 
-    own : (x : ℕ) → at ≤ x → getD g x 0 ≡ getD g (startOf up (s .minors) (s .minor) t + (x - at)) 0
+    own : (x : ℕ) → at ≤ x → getD g x 0 ≡ getD g (rowStart s up t + (x - at)) 0
     own x l = ap (λ (y : ℕ). getD g y 0) (omega (arith, here))
 
-    pub erode-gone : {g₁ : List ℕ} → Clears at (s .majors) g g₁ → s .minors ≤ t + d → Filled g g₁ (startOf up (s .minors) (s .minor) t) (startOf up (s .minors) (s .minor) t + s .majors) (λ (x : ℕ). eroded s up m e d g t (x - startOf up (s .minors) (s .minor) t))
+    pub erode-gone : {g₁ : List ℕ} → Clears at (s .majors) g g₁ → s .minors ≤ t + d
+        → Filled g g₁ (rowStart s up t) (rowStart s up t + s .majors) (λ (x : ℕ). eroded s up m e d g t (x - rowStart s up t))
     erode-gone {g₁} clear gone =
         let c : Filled g g₁ at (at + s .majors) (λ (x : ℕ). 0) = clear .done room in
         settled (eroded s up m e d g t)
@@ -170,9 +171,10 @@ module _ (s : Sweep) (up : Bool) (m : List ℕ) (e d : ℕ) (g : List ℕ) (t : 
           above = c .above;
         })
 
-    module _ (n near : ℕ) (wide : n + e ≡ s .majors) (first : near ≡ startOf up (s .minors) (s .minor) (t + d) + e) where
+    module _ (n near : ℕ) (wide : n + e ≡ s .majors) (first : near ≡ rowStart s up (t + d) + e) where
       pub erode-both : {g₁ g₂ : List ℕ} (far : ℕ) → Filled g g₁ at (at + n) (λ (x : ℕ). min (getD g x 0) (bent m g near far (x - at))) → Clears (at + n) e g₁ g₂
-          → t + d + 1 < s .minors → far ≡ startOf up (s .minors) (s .minor) (t + (d + 1)) + e → Filled g g₂ (startOf up (s .minors) (s .minor) t) (startOf up (s .minors) (s .minor) t + s .majors) (λ (x : ℕ). eroded s up m e d g t (x - startOf up (s .minors) (s .minor) t))
+          → t + d + 1 < s .minors → far ≡ rowStart s up (t + (d + 1)) + e
+          → Filled g g₂ (rowStart s up t) (rowStart s up t + s .majors) (λ (x : ℕ). eroded s up m e d g t (x - rowStart s up t))
       erode-both {g₁} {g₂} far f clear in′ second =
           let c : Filled g₁ g₂ (at + n) (at + n + e) (λ (x : ℕ). 0) = clear .done (omega (arith, f .same)) in
           settled (eroded s up m e d g t)
@@ -193,7 +195,8 @@ module _ (s : Sweep) (up : Bool) (m : List ℕ) (e d : ℕ) (g : List ℕ) (t : 
 
       pub erode-last : {g₁ g₂ g₃ : List ℕ} → Filled g g₁ at (at + n) (λ (x : ℕ). min (getD g x 0) (bent m g near at (x - at)))
           → Filled g₁ g₂ at (at + n) (λ (x : ℕ). cond (eqb (getD m (x - at) 0) 0) (getD g₁ x 0) 0) → Clears (at + n) e g₂ g₃
-          → t + d < s .minors → s .minors ≤ t + d + 1 → Filled g g₃ (startOf up (s .minors) (s .minor) t) (startOf up (s .minors) (s .minor) t + s .majors) (λ (x : ℕ). eroded s up m e d g t (x - startOf up (s .minors) (s .minor) t))
+          → t + d < s .minors → s .minors ≤ t + d + 1
+          → Filled g g₃ (rowStart s up t) (rowStart s up t + s .majors) (λ (x : ℕ). eroded s up m e d g t (x - rowStart s up t))
       unfolding bent
       erode-last {g₁} {g₂} {g₃} f b clear in′ last =
           let c : Filled g₂ g₃ (at + n) (at + n + e) (λ (x : ℕ). 0) = clear .done (omega (arith, f .same, b .same)) in
@@ -224,7 +227,7 @@ module _ (s : Sweep) (up : Bool) (m : List ℕ) (e d : ℕ) (g : List ℕ) (t : 
               cond b (min (getD g x 0) (cond b (getD g (near + (x - at)) 0) (getD g (at + (x - at)) 0))) 0 ≡ min (getD g x 0) (cond b (getD g (near + (x - at)) 0) 0))
               (eqb (getD m (x - at) 0) 0) (λ q. refl) (λ q. omega arith)
 
-    pub dilate-gone : s .minors ≤ t + d → Filled g g (startOf up (s .minors) (s .minor) t) (startOf up (s .minors) (s .minor) t + s .majors) (λ (x : ℕ). dilated s up m e d g t (x - startOf up (s .minors) (s .minor) t))
+    pub dilate-gone : s .minors ≤ t + d → Filled g g (rowStart s up t) (rowStart s up t + s .majors) (λ (x : ℕ). dilated s up m e d g t (x - rowStart s up t))
     dilate-gone gone =
         settled (dilated s up m e d g t)
         (record {
@@ -234,9 +237,10 @@ module _ (s : Sweep) (up : Bool) (m : List ℕ) (e d : ℕ) (g : List ℕ) (t : 
           above = λ x l. refl;
         })
 
-    module _ (n near : ℕ) (wide : n + e ≡ s .majors) (first : near ≡ startOf up (s .minors) (s .minor) (t + d)) where
+    module _ (n near : ℕ) (wide : n + e ≡ s .majors) (first : near ≡ rowStart s up (t + d)) where
       pub dilate-both : {g₁ : List ℕ} (far : ℕ) → Filled g g₁ (at + e) (at + e + n) (λ (x : ℕ). max (getD g x 0) (bent m g near far (x - (at + e))))
-          → t + d + 1 < s .minors → far ≡ startOf up (s .minors) (s .minor) (t + (d + 1)) → Filled g g₁ (startOf up (s .minors) (s .minor) t) (startOf up (s .minors) (s .minor) t + s .majors) (λ (x : ℕ). dilated s up m e d g t (x - startOf up (s .minors) (s .minor) t))
+          → t + d + 1 < s .minors → far ≡ rowStart s up (t + (d + 1))
+          → Filled g g₁ (rowStart s up t) (rowStart s up t + s .majors) (λ (x : ℕ). dilated s up m e d g t (x - rowStart s up t))
       dilate-both {g₁} far f in′ second =
           settled (dilated s up m e d g t)
           (record {
@@ -257,7 +261,8 @@ module _ (s : Sweep) (up : Bool) (m : List ℕ) (e d : ℕ) (g : List ℕ) (t : 
           })
 
       pub dilate-last : {g₁ : List ℕ} → Filled g g₁ (at + e) (at + e + n) (λ (x : ℕ). max (getD g x 0) (bent m g near (at + e) (x - (at + e))))
-          → t + d < s .minors → s .minors ≤ t + d + 1 → Filled g g₁ (startOf up (s .minors) (s .minor) t) (startOf up (s .minors) (s .minor) t + s .majors) (λ (x : ℕ). dilated s up m e d g t (x - startOf up (s .minors) (s .minor) t))
+          → t + d < s .minors → s .minors ≤ t + d + 1
+          → Filled g g₁ (rowStart s up t) (rowStart s up t + s .majors) (λ (x : ℕ). dilated s up m e d g t (x - rowStart s up t))
       unfolding bent
       dilate-last {g₁} f in′ last =
           settled (dilated s up m e d g t)
@@ -292,8 +297,8 @@ module _ (s : Sweep) (up : Bool) (m : List ℕ) (e d : ℕ) (g : List ℕ) (t : 
 
 -- ---- all rows
 
-module _ (s : Sweep) (up : Bool) (m : List ℕ) (e d : ℕ) {b a : List ℕ} (parted : Parted (startOf up (s .minors) (s .minor)) (s .majors) (s .minors)) where
-  ahead-kept : {F : ℕ → ℕ → ℕ} {t : ℕ} → RowsAre (startOf up (s .minors) (s .minor)) (s .majors) 0 t F b a → t < s .minors → (j c : ℕ) → j < s .majors
+module _ (s : Sweep) (up : Bool) (m : List ℕ) (e d : ℕ) {b a : List ℕ} (parted : Parted (rowStart s up) (s .majors) (s .minors)) where
+  ahead-kept : {F : ℕ → ℕ → ℕ} {t : ℕ} → RowsAre (rowStart s up) (s .majors) 0 t F b a → t < s .minors → (j c : ℕ) → j < s .majors
       → aheadAt up (s .minors) (s .minor) a t j c ≡ aheadAt up (s .minors) (s .minor) b t j c
   ahead-kept {F} {t} done h j c in′ =
       ⊎-elim
@@ -304,10 +309,10 @@ module _ (s : Sweep) (up : Bool) (m : List ℕ) (e d : ℕ) {b a : List ℕ} (pa
       (λ q. ahead-out up (s .minors) (s .minor) a t j c q ∙ sym (ahead-out up (s .minors) (s .minor) b t j c q))
       (less-or-not (t + c) (s .minors))
 
-  pub erode-more : {a′ : List ℕ} (t : ℕ) → RowsAre (startOf up (s .minors) (s .minor)) (s .majors) 0 t (eroded s up m e d b) b a
-      → Filled a a′ (startOf up (s .minors) (s .minor) t) (startOf up (s .minors) (s .minor) t + s .majors)
-      (λ (x : ℕ). eroded s up m e d a t (x - startOf up (s .minors) (s .minor) t))
-      → t < s .minors → RowsAre (startOf up (s .minors) (s .minor)) (s .majors) 0 (t + 1) (eroded s up m e d b) b a′
+  pub erode-more : {a′ : List ℕ} (t : ℕ) → RowsAre (rowStart s up) (s .majors) 0 t (eroded s up m e d b) b a
+      → Filled a a′ (rowStart s up t) (rowStart s up t + s .majors)
+      (λ (x : ℕ). eroded s up m e d a t (x - rowStart s up t))
+      → t < s .minors → RowsAre (rowStart s up) (s .majors) 0 (t + 1) (eroded s up m e d b) b a′
   erode-more {a′} t done f h = rows-more parted done f row zero-le h
     where
       kept : (k : ℕ) → onward s up m e d a t k ≡ onward s up m e d b t k
@@ -318,15 +323,15 @@ module _ (s : Sweep) (up : Bool) (m : List ℕ) (e d : ℕ) {b a : List ℕ} (pa
           (less-or-not (k + e) (s .majors))
 
       row : (k : ℕ) → k < s .majors
-          → eroded s up m e d a t (startOf up (s .minors) (s .minor) t + k - startOf up (s .minors) (s .minor) t) ≡ eroded s up m e d b t k
+          → eroded s up m e d a t (rowStart s up t + k - rowStart s up t) ≡ eroded s up m e d b t k
       row k n =
-          let q : startOf up (s .minors) (s .minor) t + k - startOf up (s .minors) (s .minor) t ≡ k = omega arith in
+          let q : rowStart s up t + k - rowStart s up t ≡ k = omega arith in
           ap (eroded s up m e d a t) q ∙ ap₂ min (row-kept parted done (omega arith) t k h n (inr (le-refl t))) (kept k)
 
-  pub dilate-more : {a′ : List ℕ} (t : ℕ) → RowsAre (startOf up (s .minors) (s .minor)) (s .majors) 0 t (dilated s up m e d b) b a
-      → Filled a a′ (startOf up (s .minors) (s .minor) t) (startOf up (s .minors) (s .minor) t + s .majors)
-      (λ (x : ℕ). dilated s up m e d a t (x - startOf up (s .minors) (s .minor) t))
-      → t < s .minors → RowsAre (startOf up (s .minors) (s .minor)) (s .majors) 0 (t + 1) (dilated s up m e d b) b a′
+  pub dilate-more : {a′ : List ℕ} (t : ℕ) → RowsAre (rowStart s up) (s .majors) 0 t (dilated s up m e d b) b a
+      → Filled a a′ (rowStart s up t) (rowStart s up t + s .majors)
+      (λ (x : ℕ). dilated s up m e d a t (x - rowStart s up t))
+      → t < s .minors → RowsAre (rowStart s up) (s .majors) 0 (t + 1) (dilated s up m e d b) b a′
   dilate-more {a′} t done f h = rows-more parted done f row zero-le h
     where
       kept : (k : ℕ) → k < s .majors → backward s up m e d a t k ≡ backward s up m e d b t k
@@ -337,9 +342,9 @@ module _ (s : Sweep) (up : Bool) (m : List ℕ) (e d : ℕ) {b a : List ℕ} (pa
           (less-or-not k e)
 
       row : (k : ℕ) → k < s .majors
-          → dilated s up m e d a t (startOf up (s .minors) (s .minor) t + k - startOf up (s .minors) (s .minor) t) ≡ dilated s up m e d b t k
+          → dilated s up m e d a t (rowStart s up t + k - rowStart s up t) ≡ dilated s up m e d b t k
       row k n =
-          let q : startOf up (s .minors) (s .minor) t + k - startOf up (s .minors) (s .minor) t ≡ k = omega arith in
+          let q : rowStart s up t + k - rowStart s up t ≡ k = omega arith in
           ap (dilated s up m e d a t) q ∙ ap₂ max (row-kept parted done (omega arith) t k h n (inr (le-refl t))) (kept k n)
 
 -- ---- the pass, for every line
@@ -395,14 +400,14 @@ pub cleared-lines : (s : Sweep) → s .major ≡ 1 → {b a : List ℕ} → Rows
 cleared-lines s flat done = columns-pixels done (spot s) (λ (k : ℕ). k) (λ k h. h) (λ t h. refl) (λ i k h. row-by-row s flat i k)
 
 module _ (s : Sweep) (m : List ℕ) (e d : ℕ) (sane : Sane s) (flat : s .major ≡ 1) (marks : Bends (s .run) (s .rise) e d (s .majors - e) m) where
-  turned-spot : (up : Bool) (i k : ℕ) → k < s .minors → spot s i k ≡ startOf up (s .minors) (s .minor) (turned up (s .minors) k) + i
+  turned-spot : (up : Bool) (i k : ℕ) → k < s .minors → spot s i k ≡ rowStart s up (turned up (s .minors) k) + i
   turned-spot up i k n = row-by-row s flat i k ∙ ap (λ (x : ℕ). x + i) (sym (turned-start up (s .minors) (s .minor) k n))
 
   -- how far the lines have moved aside in all
   moved-less : (i : ℕ) → i < s .majors → r (s .run) (s .rise) i ≤ s .top
   moved-less i h = omega (arith, sane .top, r-up (s .run) (s .rise) i (s .majors - 1) (sane .moves) (omega arith))
 
-  pub eroded-lines : {b a : List ℕ} → RowsAre (startOf (s .falling) (s .minors) (s .minor)) (s .majors) 0 (s .minors) (eroded s (s .falling) m e d b) b a
+  pub eroded-lines : {b a : List ℕ} → RowsAre (rowStart s (s .falling)) (s .majors) 0 (s .minors) (eroded s (s .falling) m e d b) b a
       → PixelsAre (spot s) (s .majors) (s .minors) (eroding (shift s) (spot s) (s .minors) (s .majors) e b) b a
   eroded-lines {b} {a} done =
       pixels-as
@@ -428,7 +433,7 @@ module _ (s : Sweep) (m : List ℕ) (e d : ℕ) (sane : Sane s) (flat : s .major
           (λ out. rw (le-ltb (i + e) (s .majors) out) (onward-out s (s .falling) m e d b (turned (s .falling) (s .minors) k) i out))
           (less-or-not (i + e) (s .majors))
 
-  pub dilated-lines : {b a : List ℕ} → RowsAre (startOf (not (s .falling)) (s .minors) (s .minor)) (s .majors) 0 (s .minors) (dilated s (not (s .falling)) m e d b) b a
+  pub dilated-lines : {b a : List ℕ} → RowsAre (rowStart s (not (s .falling))) (s .majors) 0 (s .minors) (dilated s (not (s .falling)) m e d b) b a
       → PixelsAre (spot s) (s .majors) (s .minors) (dilating (shift s) (spot s) (s .minors) e b) b a
   dilated-lines {b} {a} done =
       pixels-as

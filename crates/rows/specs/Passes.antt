@@ -8,6 +8,7 @@
 -- Lines that go along the rows, and bend from one to the next:
 --   Slanted s g          the lines of s go along the rows of the frame that stands in g
 --   startOf up N S t     where row t starts, counted from the last of N rows where `up`
+--   rowStart s up t      the same in a frame whose lines are those of s
 --   aheadAt up N S g t j d   the pixel in column j, d rows past row t in this order; 0 where there is none
 --   Bends a b e d n m    the marks m say, for the n columns from 0 on, whether a line that rises b in a run of a goes d or d + 1 rows aside in the next e columns
 --   Rest a b x rest      what the rounding of r at x leaves over
@@ -67,6 +68,9 @@ pub record Slanted (s : Sweep) (g : List ℕ) : Type 0 where
 unfoldable pub startOf : Bool → ℕ → ℕ → ℕ → ℕ
 startOf up N S t = cond up (N - 1 - t) t * S
 
+abbrev pub rowStart : Sweep → Bool → ℕ → ℕ
+rowStart s up = startOf up (s .minors) (s .minor)
+
 unfoldable pub aheadAt : Bool → ℕ → ℕ → List ℕ → ℕ → ℕ → ℕ → ℕ
 aheadAt up N S g t j d = cond (ltb (t + d) N) (getD g (startOf up N S (t + d) + j) 0) 0
 
@@ -84,10 +88,10 @@ unfoldable pub backward : Sweep → Bool → List ℕ → ℕ → ℕ → List �
 backward s up m e d g t x = cond (ltb x e) 0 (aheadAt up (s .minors) (s .minor) g t (x - e) (rowsOn d m (x - e)))
 
 abbrev pub eroded : Sweep → Bool → List ℕ → ℕ → ℕ → List ℕ → ℕ → ℕ → ℕ
-eroded s up m e d g t x = min (getD g (startOf up (s .minors) (s .minor) t + x) 0) (onward s up m e d g t x)
+eroded s up m e d g t x = min (getD g (rowStart s up t + x) 0) (onward s up m e d g t x)
 
 abbrev pub dilated : Sweep → Bool → List ℕ → ℕ → ℕ → List ℕ → ℕ → ℕ → ℕ
-dilated s up m e d g t x = max (getD g (startOf up (s .minors) (s .minor) t + x) 0) (backward s up m e d g t x)
+dilated s up m e d g t x = max (getD g (rowStart s up t + x) 0) (backward s up m e d g t x)
 
 unfoldable pub bent : List ℕ → List ℕ → ℕ → ℕ → ℕ → ℕ
 bent m g near far j = cond (eqb (getD m j 0) 0) (getD g (near + j) 0) (getD g (far + j) 0)

@@ -10,12 +10,12 @@ ghost use lib.ListN.{length};
 ghost use Rattle.lists.specs.Stores.{Filled};
 ghost use Rattle.frame.specs.Sweep.{Sane};
 ghost use Rattle.rows.specs.Rows.{RowsAre};
-ghost use Rattle.rows.specs.Passes.{Slanted, startOf, eroded, dilated};
+ghost use Rattle.rows.specs.Passes.{Slanted, rowStart, eroded, dilated};
 
 // Where row t starts.
 fn start(s: Sweep, up: bool, t: usize) -> usize
     requires { ⌜ Sane s × (t < s .minors) ⌝ }
-    ensures { λ n. ⌜ n ≡ startOf up (s .minors) (s .minor) t ⌝ }
+    ensures { λ n. ⌜ n ≡ rowStart s up t ⌝ }
 {
     let rows = s.minors;
     let stride = s.minor;
@@ -29,7 +29,7 @@ fn start(s: Sweep, up: bool, t: usize) -> usize
 // Each pixel of row t becomes the darker of itself and its line's pixel e columns on, which stands `step` rows on, or one more where it is marked.
 fn erode_slant(buf: &mut [u8], bends: &[u8], s: Sweep, up: bool, t: usize, e: usize, step: usize)
     requires { ⌜ Slanted s (now buf) × (t < s .minors) × (e ≤ s .majors) × (s .majors ≤ length (now bends)) ⌝ }
-    ensures { λ _. ⌜ Filled (now (buf .entry)) (now (buf .exit)) (startOf up (s .minors) (s .minor) t) (startOf up (s .minors) (s .minor) t + s .majors) (λ (x : ℕ). eroded s up (now (bends .entry)) e step (now (buf .entry)) t (x - startOf up (s .minors) (s .minor) t)) ⌝ }
+    ensures { λ _. ⌜ Filled (now (buf .entry)) (now (buf .exit)) (rowStart s up t) (rowStart s up t + s .majors) (λ (x : ℕ). eroded s up (now (bends .entry)) e step (now (buf .entry)) t (x - rowStart s up t)) ⌝ }
 {
     let left = s.minors - t;
     let at = start(s, up, t);
@@ -53,7 +53,7 @@ fn erode_slant(buf: &mut [u8], bends: &[u8], s: Sweep, up: bool, t: usize, e: us
 // Each pixel of row t becomes the brighter of itself and its line's pixel e columns before, where there is one.
 fn dilate_slant(buf: &mut [u8], bends: &[u8], s: Sweep, up: bool, t: usize, e: usize, step: usize)
     requires { ⌜ Slanted s (now buf) × (t < s .minors) × (e ≤ s .majors) × (s .majors ≤ length (now bends)) ⌝ }
-    ensures { λ _. ⌜ Filled (now (buf .entry)) (now (buf .exit)) (startOf up (s .minors) (s .minor) t) (startOf up (s .minors) (s .minor) t + s .majors) (λ (x : ℕ). dilated s up (now (bends .entry)) e step (now (buf .entry)) t (x - startOf up (s .minors) (s .minor) t)) ⌝ }
+    ensures { λ _. ⌜ Filled (now (buf .entry)) (now (buf .exit)) (rowStart s up t) (rowStart s up t + s .majors) (λ (x : ℕ). dilated s up (now (bends .entry)) e step (now (buf .entry)) t (x - rowStart s up t)) ⌝ }
 {
     let left = s.minors - t;
     if left <= step {
@@ -72,7 +72,7 @@ fn dilate_slant(buf: &mut [u8], bends: &[u8], s: Sweep, up: bool, t: usize, e: u
 
 pub(crate) fn erode_slants(buf: &mut [u8], bends: &[u8], s: Sweep, up: bool, e: usize, step: usize)
     requires { ⌜ Slanted s (now buf) × (e ≤ s .majors) × (s .majors ≤ length (now bends)) ⌝ }
-    ensures { λ _. ⌜ RowsAre (startOf up (s .minors) (s .minor)) (s .majors) 0 (s .minors) (eroded s up (now (bends .entry)) e step (now (buf .entry))) (now (buf .entry)) (now (buf .exit)) ⌝ }
+    ensures { λ _. ⌜ RowsAre (rowStart s up) (s .majors) 0 (s .minors) (eroded s up (now (bends .entry)) e step (now (buf .entry))) (now (buf .entry)) (now (buf .exit)) ⌝ }
 {
     let rows = s.minors;
     let mut t = 0;
@@ -84,7 +84,7 @@ pub(crate) fn erode_slants(buf: &mut [u8], bends: &[u8], s: Sweep, up: bool, e: 
 
 pub(crate) fn dilate_slants(buf: &mut [u8], bends: &[u8], s: Sweep, up: bool, e: usize, step: usize)
     requires { ⌜ Slanted s (now buf) × (e ≤ s .majors) × (s .majors ≤ length (now bends)) ⌝ }
-    ensures { λ _. ⌜ RowsAre (startOf up (s .minors) (s .minor)) (s .majors) 0 (s .minors) (dilated s up (now (bends .entry)) e step (now (buf .entry))) (now (buf .entry)) (now (buf .exit)) ⌝ }
+    ensures { λ _. ⌜ RowsAre (rowStart s up) (s .majors) 0 (s .minors) (dilated s up (now (bends .entry)) e step (now (buf .entry))) (now (buf .entry)) (now (buf .exit)) ⌝ }
 {
     let rows = s.minors;
     let mut t = 0;

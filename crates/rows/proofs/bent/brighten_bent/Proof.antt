@@ -33,7 +33,9 @@ returns-2 c =
     let a = c .before .before .before .before .before .before .before .before .before .before .before .before .before .args in
     let block = c .before .before .before .before .before .before .before .before .brighter-bent-at in
     let wide = c .before .before .before .before .before .before .before .before .before .before .if1 .left in
-    met-first max (a .bends .now) (a .at) (a .near) (a .far) (a .buf .now) (block .result) 0 (a .at) (block .ensures) (c .before .before .put-sixteen .ensures) (omega arith) (c .before .before .before .before .before .before .brighten-sixteens .ensures) (omega arith) (omega arith) (omega (arith, wide)) refl
+    met-first max (a .bends .now) (a .at) (a .near) (a .far) (a .buf .now) (block .result) 0 (a .at) (block .ensures)
+    (c .before .before .put-sixteen .ensures) (omega arith) (c .before .before .before .before .before .before .brighten-sixteens .ensures)
+    (omega arith) (omega arith) (omega (arith, wide)) refl
 
 pub brighten-bent-spec : {M : Type 1} → statement M
 brighten-bent-spec =

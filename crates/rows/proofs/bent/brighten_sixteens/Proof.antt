@@ -46,8 +46,12 @@ loop-again c =
     let at = c .before .before .before .before .before .before .before .loop in
     let more = c .before .before .before .before .before .before .loop-test .taken in
     let block = c .before .before .before .before .brighter-bent-at in
-    let rest = a .count % 16 in
-    (omega (arith, at .inv .0), met-block-before max (a .bends .now) (a .at) (a .near) (a .far) (a .count) (p .4) (p .5) (block .result) (rest + 16 * (at .k - 1)) (at .inv .1) (omega (arith, more)) (omega (arith, at .inv .0)) (block .ensures) (c .before .before .put-sixteen .ensures))
+    let rest = a .count % 16 in (
+      omega (arith, at .inv .0),
+      met-block-before max (a .bends .now) (a .at) (a .near) (a .far) (a .count) (p .4) (p .5) (block .result)
+          (rest + 16 * (at .k - 1)) (at .inv .1) (omega (arith, more)) (omega (arith, at .inv .0)) (block .ensures)
+          (c .before .before .put-sixteen .ensures),
+    )
 
 same-length : tie.Need-same-length Inv-loop μ-loop
 same-length c = c .before .loop .inv .1 .same

@@ -36,7 +36,9 @@ returns-2 c =
     let a = c .before .before .before .before .before .before .before .before .before .before .before .before .before .args in
     let block = c .before .before .before .before .before .before .before .before .darker-bent-at in
     let wide = c .before .before .before .before .before .before .before .before .before .before .if1 .left in
-    met-last min (a .bends .now) (a .at) (a .near) (a .far) (a .buf .now) (block .result) (a .count - 16) _ (block .ensures) (c .before .before .put-sixteen .ensures) refl (c .before .before .before .before .before .before .darken-sixteens .ensures) (omega (arith, wide)) (omega arith) (omega (arith, wide))
+    met-last min (a .bends .now) (a .at) (a .near) (a .far) (a .buf .now) (block .result) (a .count - 16) _ (block .ensures)
+    (c .before .before .put-sixteen .ensures) refl (c .before .before .before .before .before .before .darken-sixteens .ensures) (omega (arith, wide))
+    (omega arith) (omega (arith, wide))
 
 pub darken-bent-spec : {M : Type 1} → statement M
 darken-bent-spec =

@@ -67,7 +67,8 @@ loop-again c =
       filled-end
           (filled-more filled (omega arith) (omega (arith, filled .same))
           (met-read min (a .bends .now) (at .buf) (a .at) (a .near) (a .far) (at .i) (c .darker .ensures) (c .before .either .ensures)
-          ∙ met-ahead min (a .bends .now) (a .at) (a .near) (a .far) (a .count) (p .4) (p .5) (a .at + at .i) filled (omega arith) (omega arith) (omega arith) (omega arith)))
+          ∙ met-ahead min (a .bends .now) (a .at) (a .near) (a .far) (a .count) (p .4) (p .5) (a .at + at .i) filled (omega arith) (omega arith)
+          (omega arith) (omega arith)))
           (omega arith),
     )
 

@@ -43,7 +43,8 @@ loop-again c =
     let at = c .before .before .before .before .before .before .before .loop in
     let more = c .before .before .before .before .before .before .loop-test .taken in
     let block = c .before .before .before .before .darker-bent-at in
-    let grown = met-block min (a .bends .now) (a .at) (a .near) (a .far) (a .count) (p .4) (p .5) (block .result) (16 * at .k) (at .inv .1) (omega (arith, more)) (block .ensures) (c .before .before .put-sixteen .ensures) in
+    let grown = met-block min (a .bends .now) (a .at) (a .near) (a .far) (a .count) (p .4) (p .5) (block .result) (16 * at .k) (at .inv .1)
+    (omega (arith, more)) (block .ensures) (c .before .before .put-sixteen .ensures) in
     (omega (arith, more), filled-end grown (omega arith))
 
 same-length : tie.Need-same-length Inv-loop μ-loop

@@ -64,8 +64,12 @@ loop-again c =
     let a = c .before .before .before .before .before .before .before .before .before .before .args in
     let at = c .before .before .before .before .before .before .before .loop in
     let filled = at .inv .2 in
-    let read = c .before .either .ensures ∙ bent-is (a .bends .now) (a .buf .now) (a .near) (a .far) (a .i + at .j) in
-    (omega arith, search needs, filled-more filled (omega arith) (omega (arith, filled .same)) (c .darker .ensures ∙ ap (min (getD (a .buf .now) (a .at + (a .i + at .j)) 0)) read))
+    let read = c .before .either .ensures ∙ bent-is (a .bends .now) (a .buf .now) (a .near) (a .far) (a .i + at .j) in (
+      omega arith,
+      search needs,
+      filled-more filled (omega arith) (omega (arith, filled .same))
+          (c .darker .ensures ∙ ap (min (getD (a .buf .now) (a .at + (a .i + at .j)) 0)) read),
+    )
 
 returns : tie.Need-returns Inv-loop μ-loop
 returns c = λ k h. c .before .loop .inv .2 .within k zero-le (omega arith)

@@ -40,8 +40,12 @@ loop-again c =
     let pre = c .before .before .before .before .before .before .before .pre in
     let at = c .before .before .before .before .before .loop in
     let room = row-room (args .stride) (args .n) (args .to) (length (args .buf .now)) (at .i) (omega arith) (pre .2) in
-    let done = at .inv .2 in
-    (omega arith, omega arith, rows-more (parted-rows (args .stride) (args .n) (args .to) (pre .0)) done (c .before .before .blacken .ensures .done (omega (arith, done .same))) (λ k h. refl) (omega arith) (omega arith))
+    let done = at .inv .2 in (
+      omega arith,
+      omega arith,
+      rows-more (parted-rows (args .stride) (args .n) (args .to) (pre .0)) done
+          (c .before .before .blacken .ensures .done (omega (arith, done .same))) (λ k h. refl) (omega arith) (omega arith),
+    )
 
 same-length : tie.Need-same-length Inv-loop μ-loop
 same-length c = c .before .loop .inv .2 .same

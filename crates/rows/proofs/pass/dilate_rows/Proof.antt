@@ -65,11 +65,12 @@ aside-requires-2 c κs =
 
 dilate-row-requires : tie.Need-dilate-row-requires Inv-loop μ-loop
 dilate-row-requires c κs =
-    let s = c .before .before .before .before .before .before .args .s in
-    let e = c .before .before .before .before .before .before .args .e in
+    let args = c .before .before .before .before .before .before .args in
+    let s = args .s in
+    let e = args .e in
     let down = c .before .before .before .before .before .before .pre .0 in
     let at = c .before .before .before .before .loop in
-    let room = row-room (s .major) (s .minors) (s .majors) (length (c .before .before .before .before .before .before .args .buf .now)) (at .i - 1) (omega arith) (down .room) in
+    let room = row-room (s .major) (s .minors) (s .majors) (length (args .buf .now)) (at .i - 1) (omega arith) (down .room) in
     let whole : at .i - 1 - e + e ≡ at .i - 1 = omega arith in
     let sum : (at .i - 1) * s .major ≡ (at .i - 1 - e) * s .major + e * s .major = ap (λ (m : ℕ). m * s .major) (sym whole) ∙ add-mul (at .i - 1 - e) e (s .major) in
     let one : 1 * s .major ≤ e * s .major = mul-le-mul-right (s .major) (omega arith) in
@@ -80,15 +81,19 @@ loop-less c = search needs
 
 loop-again : tie.Need-loop-again Inv-loop μ-loop
 loop-again c =
-    let s = c .before .before .before .before .before .before .before .before .before .args .s in
-    let e = c .before .before .before .before .before .before .before .before .before .args .e in
+    let args = c .before .before .before .before .before .before .before .before .before .args in
+    let s = args .s in
+    let e = args .e in
     let down = c .before .before .before .before .before .before .before .before .before .pre .0 in
     let at = c .before .before .before .before .before .before .before .loop in
     let whole : at .i - 1 ≡ at .i - 1 - e + e = omega arith in
-    let here : c .before .before .before .before .aside .result ≡ shift s (at .i - 1 - e + e) = c .before .before .before .before .aside .ensures .0 ∙ ap (shift s) whole in (
+    let here : c .before .before .before .before .aside .result ≡ shift s (at .i - 1 - e + e) = c .before .before .before .before .aside .ensures .0
+    ∙ ap (shift s) whole in (
       omega arith,
       omega arith,
-      rows-start (dilate-more (shift s) (spot s) (s .major) (s .minors) (s .majors) e (side-by-side s (down .next)) (parted-rows (s .major) (s .minors) (s .majors) (down .apart)) (at .i) (at .i - 1 - e) _ _ (at .inv .2) (c .before .before .dilate-row .ensures) here (c .before .before .before .aside2 .ensures .0) (omega arith) (omega arith) (omega arith)) (omega arith),
+      rows-start (dilate-more (shift s) (spot s) (s .major) (s .minors) (s .majors) e (side-by-side s (down .next))
+          (parted-rows (s .major) (s .minors) (s .majors) (down .apart)) (at .i) (at .i - 1 - e) _ _ (at .inv .2) (c .before .before .dilate-row .ensures)
+          here (c .before .before .before .aside2 .ensures .0) (omega arith) (omega arith) (omega arith)) (omega arith),
     )
 
 same-length : tie.Need-same-length Inv-loop μ-loop

@@ -27,11 +27,15 @@ same-length c = search needs
 
 returns : tie.Need-returns
 returns c =
-    let s = c .before .before .before .before .before .before .before .before .before .before .args .s in
-    let e = c .before .before .before .before .before .before .before .before .before .before .args .e in
-    let buf = c .before .before .before .before .before .before .before .before .before .before .args .buf .now in
-    rows-join (parted-rows (s .major) (s .minors) (s .majors) (c .before .before .before .before .before .before .before .before .before .before .pre .0 .apart)) (c .before .before .before .before .before .before .before .erode-upper .ensures)
-    (rows-as (c .before .before .clear-rows .ensures) (eroding (shift s) (spot s) (s .minors) (s .majors) e buf) (λ i k l h n. cut-off i e (s .majors) _ _ (omega arith))) zero-le (omega arith) (le-refl (s .majors))
+    let args = c .before .before .before .before .before .before .before .before .before .before .args in
+    let s = args .s in
+    let e = args .e in
+    let buf = args .buf .now in
+    rows-join (parted-rows (s .major) (s .minors) (s .majors)
+    (c .before .before .before .before .before .before .before .before .before .before .pre .0 .apart))
+    (c .before .before .before .before .before .before .before .erode-upper .ensures)
+    (rows-as (c .before .before .clear-rows .ensures) (eroding (shift s) (spot s) (s .minors) (s .majors) e buf)
+    (λ i k l h n. cut-off i e (s .majors) _ _ (omega arith))) zero-le (omega arith) (le-refl (s .majors))
 
 pub erode-rows-spec : {M : Type 1} → statement M
 erode-rows-spec =

@@ -59,11 +59,12 @@ aside-requires-2 c κs =
 
 erode-row-requires : tie.Need-erode-row-requires Inv-loop μ-loop
 erode-row-requires c κs =
-    let s = c .before .before .before .before .before .before .args .s in
-    let e = c .before .before .before .before .before .before .args .e in
+    let args = c .before .before .before .before .before .before .args in
+    let s = args .s in
+    let e = args .e in
     let down = c .before .before .before .before .before .before .pre .0 in
     let at = c .before .before .before .before .loop in
-    let room = row-room (s .major) (s .minors) (s .majors) (length (c .before .before .before .before .before .before .args .buf .now)) (at .i + e) (omega arith) (down .room) in
+    let room = row-room (s .major) (s .minors) (s .majors) (length (args .buf .now)) (at .i + e) (omega arith) (down .room) in
     let sum = add-mul (at .i) e (s .major) in
     let one : 1 * s .major ≤ e * s .major = mul-le-mul-right (s .major) (omega arith) in
     (omega (arith, at .inv .1 .same), omega (arith, one-mul (s .major), down .apart), c .before .aside .ensures .1, c .aside2 .ensures .1)
@@ -76,11 +77,16 @@ loop-less c = search needs
 
 loop-again : tie.Need-loop-again Inv-loop μ-loop
 loop-again c =
-    let s = c .before .before .before .before .before .before .before .before .before .args .s in
-    let e = c .before .before .before .before .before .before .before .before .before .args .e in
+    let args = c .before .before .before .before .before .before .before .before .before .args in
+    let s = args .s in
+    let e = args .e in
     let down = c .before .before .before .before .before .before .before .before .before .pre .0 in
-    let at = c .before .before .before .before .before .before .before .loop in
-    (omega arith, erode-more (shift s) (spot s) (s .major) (s .minors) (s .majors) e (side-by-side s (down .next)) (parted-rows (s .major) (s .minors) (s .majors) (down .apart)) (at .i) _ _ (at .inv .1) (c .before .before .erode-row .ensures) (c .before .before .before .before .aside .ensures .0) (c .before .before .before .aside2 .ensures .0) (omega arith))
+    let at = c .before .before .before .before .before .before .before .loop in (
+      omega arith,
+      erode-more (shift s) (spot s) (s .major) (s .minors) (s .majors) e (side-by-side s (down .next))
+          (parted-rows (s .major) (s .minors) (s .majors) (down .apart)) (at .i) _ _ (at .inv .1) (c .before .before .erode-row .ensures)
+          (c .before .before .before .before .aside .ensures .0) (c .before .before .before .aside2 .ensures .0) (omega arith),
+    )
 
 same-length : tie.Need-same-length Inv-loop μ-loop
 same-length c = c .before .loop .inv .1 .same

@@ -45,12 +45,14 @@ same-length-2 c = search needs
 
 returns-2 : tie.Need-returns-2
 returns-2 c =
-    let at = c .before .before .before .before .before .before .before .before .before .before .before .args .at in
-    let n = c .before .before .before .before .before .before .before .before .before .before .before .args .n in
-    let below = c .before .before .before .before .before .before .before .before .before .before .before .args .below in
-    let a = c .before .before .before .before .before .before .before .before .before .before .before .args .a in
-    let b = c .before .before .before .before .before .before .before .before .before .before .before .args .b in
-    erode-right at n below a b (a - b) (omega arith) (omega arith) (omega arith) (c .before .before .before .before .before .before .darken .ensures) (c .before .before .blacken2 .ensures)
+    let args = c .before .before .before .before .before .before .before .before .before .before .before .args in
+    let at = args .at in
+    let n = args .n in
+    let below = args .below in
+    let a = args .a in
+    let b = args .b in
+    erode-right at n below a b (a - b) (omega arith) (omega arith) (omega arith) (c .before .before .before .before .before .before .darken .ensures)
+    (c .before .before .blacken2 .ensures)
 
 sub-aside : tie.Need-sub-aside
 sub-aside c = search needs
@@ -91,12 +93,14 @@ same-length-4 c = search needs
 
 returns-4 : tie.Need-returns-4
 returns-4 c =
-    let at = c .before .before .before .before .before .before .before .before .before .before .before .args .at in
-    let n = c .before .before .before .before .before .before .before .before .before .before .before .args .n in
-    let below = c .before .before .before .before .before .before .before .before .before .before .before .args .below in
-    let a = c .before .before .before .before .before .before .before .before .before .before .before .args .a in
-    let b = c .before .before .before .before .before .before .before .before .before .before .before .args .b in
-    erode-left at n below a b (b - a) (omega arith) (omega arith) (omega arith) (omega arith) (c .before .before .before .before .before .before .darken2 .ensures) (c .before .before .blacken4 .ensures)
+    let args = c .before .before .before .before .before .before .before .before .before .before .before .args in
+    let at = args .at in
+    let n = args .n in
+    let below = args .below in
+    let a = args .a in
+    let b = args .b in
+    erode-left at n below a b (b - a) (omega arith) (omega arith) (omega arith) (omega arith)
+    (c .before .before .before .before .before .before .darken2 .ensures) (c .before .before .blacken4 .ensures)
 
 pub erode-row-spec : {M : Type 1} → statement M
 erode-row-spec =

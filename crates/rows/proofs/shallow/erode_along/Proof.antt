@@ -28,18 +28,21 @@ growth-requires c κs = search needs
 
 mul-step : tie.Need-mul-step Inv-loop μ-loop
 mul-step c =
+    let pre = c .before .before .before .before .before .before .pre in
     let s = c .before .before .before .before .before .before .args .s in
-    let sane = c .before .before .before .before .before .before .pre .0 .sane in
+    let sane = pre .0 .sane in
     let e = c .before .growth .result in
     let fits : e * s .rise ≤ longest * steepest =
-    mul-le-mul {n₁ = e} {m₁ = s .rise} {n₂ = longest} {m₂ = steepest} (omega (arith, c .before .growth .ensures, c .before .before .before .loop .inv, c .before .before .before .before .before .before .pre, sane .majors)) (omega (arith, sane .slow, sane .run)) in
+    mul-le-mul {n₁ = e} {m₁ = s .rise} {n₂ = longest} {m₂ = steepest}
+    (omega (arith, c .before .growth .ensures, c .before .before .before .loop .inv, pre, sane .majors)) (omega (arith, sane .slow, sane .run)) in
     omega arith
 
 div-step : tie.Need-div-step Inv-loop μ-loop
 div-step c = omega (arith, c .before .before .before .before .before .before .before .pre .0 .sane .moves)
 
 sub-mark-bends : tie.Need-sub-mark-bends Inv-loop μ-loop
-sub-mark-bends c = omega (arith, c .before .before .before .before .growth .ensures, c .before .before .before .before .before .before .loop .inv, c .before .before .before .before .before .before .before .before .before .pre)
+sub-mark-bends c =
+    omega (arith, c .before .before .before .before .growth .ensures, c .before .before .before .before .before .before .loop .inv, c .before .before .before .before .before .before .before .before .before .pre)
 
 mark-bends-requires : tie.Need-mark-bends-requires Inv-loop μ-loop
 mark-bends-requires c κs =
@@ -53,8 +56,13 @@ erode-slants-requires : tie.Need-erode-slants-requires Inv-loop μ-loop
 erode-slants-requires c κs =
     let pre = c .before .before .before .before .before .before .before .before .before .before .before .before .before .before .pre in
     let slanted = pre .0 in
-    let at = c .before .before .before .before .before .before .before .before .before .before .before .loop in
-    (record { sane = slanted .sane; next = slanted .next; apart = slanted .apart; room = omega (arith, slanted .room, at .inv .0) }, omega (arith, c .before .before .before .before .before .before .before .before .before .growth .ensures, at .inv, pre), omega (arith, pre, at .inv .1, c .before .before .before .before .mark-bends .ensures .0))
+    let at = c .before .before .before .before .before .before .before .before .before .before .before .loop in (
+      record { sane = slanted .sane; next = slanted .next; apart = slanted .apart; room = omega (arith, slanted .room, at .inv .0) },
+      omega
+          (arith, c .before .before .before .before .before .before .before .before .before .growth .ensures, at .inv, pre),
+      omega
+          (arith, pre, at .inv .1, c .before .before .before .before .mark-bends .ensures .0),
+    )
 
 add-w : tie.Need-add-w Inv-loop μ-loop
 add-w c = search needs
@@ -64,8 +72,9 @@ loop-less c = search needs
 
 loop-again : tie.Need-loop-again Inv-loop μ-loop
 loop-again c =
-    let s = c .before .before .before .before .before .before .before .before .before .before .before .before .before .before .before .before .before .args .s in
-    let length = c .before .before .before .before .before .before .before .before .before .before .before .before .before .before .before .before .before .args .length in
+    let args = c .before .before .before .before .before .before .before .before .before .before .before .before .before .before .before .before .before .args in
+    let s = args .s in
+    let length = args .length in
     let pre = c .before .before .before .before .before .before .before .before .before .before .before .before .before .before .before .before .before .pre in
     let at = c .before .before .before .before .before .before .before .before .before .before .before .before .before .before .loop in
     let grown = c .before .before .before .before .before .before .before .before .before .before .before .before .growth in
@@ -75,7 +84,11 @@ loop-again c =
       marked .ensures .0 ∙ at .inv .1,
       omega (arith, at .inv),
       omega (arith, at .inv, grown .ensures),
-      record { pixels = eroded-step (shift s) (spot s) (s .minors) (s .majors) _ (at .w) (grown .result) (at .inv .4 .pixels) (eroded-lines s _ (grown .result) _ (pre .0 .sane) (pre .0 .next) (marked .ensures .1) (pass .ensures)) (omega (arith, at .inv)) (omega (arith, grown .ensures)) },
+      record {
+        pixels = eroded-step (shift s) (spot s) (s .minors) (s .majors) _ (at .w) (grown .result) (at .inv .4 .pixels)
+            (eroded-lines s _ (grown .result) _ (pre .0 .sane) (pre .0 .next) (marked .ensures .1) (pass .ensures)) (omega (arith, at .inv))
+            (omega (arith, grown .ensures));
+      },
     )
 
 same-length : tie.Need-same-length Inv-loop μ-loop

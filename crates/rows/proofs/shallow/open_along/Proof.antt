@@ -17,8 +17,9 @@ same-length c = search needs
 
 returns : tie.Need-returns
 returns c =
-    let s = c .before .before .before .before .before .before .before .before .args .s in
-    opened-none (shift s) (spot s) (s .minors) (s .majors) _ (c .before .before .before .before .before .before .before .before .args .length) (c .before .before .before .before .if1 .taken)
+    let args = c .before .before .before .before .before .before .before .before .args in
+    let s = args .s in
+    opened-none (shift s) (spot s) (s .minors) (s .majors) _ (args .length) (c .before .before .before .before .if1 .taken)
     (cleared-lines s (c .before .before .before .before .before .before .before .before .pre .0 .next) (c .before .before .clear-rows .ensures))
 
 erode-along-requires : tie.Need-erode-along-requires
@@ -28,8 +29,17 @@ dilate-along-requires : tie.Need-dilate-along-requires
 dilate-along-requires c κs =
     let pre = c .before .before .before .before .before .before .before .before .before .before .before .before .before .pre in
     let slanted = pre .0 in
-    let eroded = c .before .before .before .before .before .before .erode-along in
-    (record { sane = slanted .sane; next = slanted .next; apart = slanted .apart; room = omega (arith, slanted .room, eroded .kept .0) }, pre .1, omega arith, omega (arith, pre .2, eroded .kept .1))
+    let eroded = c .before .before .before .before .before .before .erode-along in (
+      record {
+        sane = slanted .sane;
+        next = slanted .next;
+        apart = slanted .apart;
+        room = omega (arith, slanted .room, eroded .kept .0);
+      },
+      pre .1,
+      omega arith,
+      omega (arith, pre .2, eroded .kept .1),
+    )
 
 same-length-2 : tie.Need-same-length-2
 same-length-2 c = search needs
@@ -39,10 +49,13 @@ same-length-3 c = search needs
 
 returns-2 : tie.Need-returns-2
 returns-2 c =
-    let s = c .before .before .before .before .before .before .before .before .before .before .before .before .before .before .before .before .before .before .args .s in
-    let buf = c .before .before .before .before .before .before .before .before .before .before .before .before .before .before .before .before .before .before .args .buf .now in
-    dilated-end (shift s) (spot s) (s .minors) (s .majors) buf (c .before .before .before .before .before .before .before .before .before .before .before .before .before .before .before .before .before .before .args .length) (c .before .before .before .before .before .before .before .before .before .before .before .before .before .before .before .before .before .before .pre .1)
-    (c .before .before .before .before .dilate-along .ensures .pixels buf (c .before .before .before .before .before .before .before .before .before .before .before .erode-along .ensures))
+    let args = c .before .before .before .before .before .before .before .before .before .before .before .before .before .before .before .before .before .before .args in
+    let s = args .s in
+    let buf = args .buf .now in
+    dilated-end (shift s) (spot s) (s .minors) (s .majors) buf (args .length)
+    (c .before .before .before .before .before .before .before .before .before .before .before .before .before .before .before .before .before .before .pre .1)
+    (c .before .before .before .before .dilate-along .ensures .pixels buf
+    (c .before .before .before .before .before .before .before .before .before .before .before .erode-along .ensures))
 
 pub open-along-spec : {M : Type 1} → statement M
 open-along-spec =

@@ -74,9 +74,11 @@ returns-6 c =
     let args = c .before .before .before .before .before .before .before .before .before .before .before .before .before .args in
     let ok = accepted (c .before .before .before .before .before .before .before) in
     let some = le-leb 1 (args .length) (c .before .before .before .before .if4 .left) in
-    let room = le-leb (needed (args .shape)) (length (args .buf .now)) (rw (bytes-needed ok (c .before .before .before .bytes .ensures)) at (c .before .before .if5 .left)) in
+    let room = le-leb (needed (args .shape)) (length (args .buf .now))
+    (rw (bytes-needed ok (c .before .before .before .bytes .ensures)) at (c .before .before .if5 .left)) in
     let short = lt-leb (args .shape .width) (length (args .bends .now)) (c .if6 .taken) in
-    shallow-kept (args .shape) (args .d) (args .length) (args .buf .now) (args .bends .now) (rw (ok .frame, ok .direction, flat (c .before .before .before .before .before), some, room, short))
+    shallow-kept (args .shape) (args .d) (args .length) (args .buf .now) (args .bends .now)
+    (rw (ok .frame, ok .direction, flat (c .before .before .before .before .before), some, room, short))
 
 sweep-of-requires : tie.Need-sweep-of-requires
 sweep-of-requires c κs = search needs
@@ -85,8 +87,13 @@ open-along-requires : tie.Need-open-along-requires
 open-along-requires c κs =
     let ok = accepted (c .before .before .before .before .before .before .before .before .before .before) in
     let swept = c .sweep-of .ensures ∙ sweep-accepted ok in
-    let room = rw (bytes-needed ok (c .before .before .before .before .before .before .bytes .ensures)) at (c .before .before .before .before .before .if5 .left) in
-    (rw swept (shallow-slanted ok (flat (c .before .before .before .before .before .before .before .before)) _ room), c .before .before .before .before .before .before .before .if4 .left, rw swept (shallow-marks ok (flat (c .before .before .before .before .before .before .before .before)) _ (c .before .before .before .if6 .left)))
+    let room = rw (bytes-needed ok (c .before .before .before .before .before .before .bytes .ensures)) at (c .before .before .before .before .before .if5 .left) in (
+      rw swept (shallow-slanted ok (flat (c .before .before .before .before .before .before .before .before))
+          _ room),
+      c .before .before .before .before .before .before .before .if4 .left,
+      rw swept
+          (shallow-marks ok (flat (c .before .before .before .before .before .before .before .before)) _ (c .before .before .before .if6 .left)),
+    )
 
 same-length : tie.Need-same-length
 same-length c = search needs
@@ -99,9 +106,13 @@ returns-7 c =
     let args = c .before .before .before .before .before .before .before .before .before .before .before .before .before .before .before .before .before .before .before .before .before .args in
     let ok = accepted (c .before .before .before .before .before .before .before .before .before .before .before .before .before .before .before) in
     let swept = c .before .before .before .before .before .sweep-of .ensures ∙ sweep-accepted ok in
-    let room = rw (bytes-needed ok (c .before .before .before .before .before .before .before .before .before .before .before .bytes .ensures)) at (c .before .before .before .before .before .before .before .before .before .before .if5 .left) in
+    let room = rw (bytes-needed ok (c .before .before .before .before .before .before .before .before .before .before .before .bytes .ensures)) at
+    (c .before .before .before .before .before .before .before .before .before .before .if5 .left) in
     let opened = c .before .before .before .before .open-along in
-    let all = shallow-all ok (flat (c .before .before .before .before .before .before .before .before .before .before .before .before .before)) (args .length) (args .buf .now) (length (args .bends .now)) (c .before .before .before .before .before .before .before .before .before .before .before .before .if4 .left) room (c .before .before .before .before .before .before .before .before .if6 .left) in
+    let all = shallow-all ok (flat (c .before .before .before .before .before .before .before .before .before .before .before .before .before))
+    (args .length) (args .buf .now) (length (args .bends .now))
+    (c .before .before .before .before .before .before .before .before .before .before .before .before .if4 .left) room
+    (c .before .before .before .before .before .before .before .before .if6 .left) in
     record { same = opened .kept .1 .0; done = λ e. rw swept at (opened .ensures); none = λ e. absurd (true≢false (sym all ∙ e)) }
 
 pub open-shallow-spec : {M : Type 1} → statement M

@@ -60,7 +60,8 @@ brighten-bent-requires c κs =
       omega (arith, next, there),
       omega (arith, room, here),
       omega arith,
-      slant-behind (args .up) (s .minor) (s .majors) (s .minors) (args .t) (args .step) (args .e) (s .majors - args .e) (slanted .apart) (omega arith) (omega arith) _ _ (omega (arith, here)) (there),
+      slant-behind (args .up) (s .minor) (s .majors) (s .minors) (args .t) (args .step) (args .e) (s .majors - args .e) (slanted .apart) (omega arith)
+          (omega arith) _ _ (omega (arith, here)) (there),
       inl (le-refl _),
     )
 
@@ -76,7 +77,8 @@ returns-2 c =
     let room = start-room (args .up) (s .minor) (s .majors) (s .minors) (length (args .buf .now)) (args .t) (omega arith) (slanted .room) in
     let here = c .before .before .before .before .before .before .before .start .ensures in
     let there = c .before .before .before .before .before .start2 .ensures in
-    dilate-last s (args .up) (args .bends .now) (args .e) (args .step) (args .buf .now) (args .t) _ here (omega (arith, room, here)) (s .majors - args .e) _ (omega arith) there (c .before .before .brighten-bent .ensures) (omega arith) (omega arith)
+    dilate-last s (args .up) (args .bends .now) (args .e) (args .step) (args .buf .now) (args .t) _ here (omega (arith, room, here))
+    (s .majors - args .e) _ (omega arith) there (c .before .before .brighten-bent .ensures) (omega arith) (omega arith)
 
 add-start-2 : tie.Need-add-start-2
 add-start-2 c = search needs
@@ -103,8 +105,10 @@ brighten-bent-requires-2 c κs =
       omega (arith, next, there),
       omega (arith, last, past),
       omega arith,
-      slant-behind (args .up) (s .minor) (s .majors) (s .minors) (args .t) (args .step) (args .e) (s .majors - args .e) (slanted .apart) (omega arith) (omega arith) _ _ (omega (arith, here)) (there),
-      slant-behind (args .up) (s .minor) (s .majors) (s .minors) (args .t) (args .step + 1) (args .e) (s .majors - args .e) (slanted .apart) (omega arith) (omega arith) _ _ (omega (arith, here)) (past),
+      slant-behind (args .up) (s .minor) (s .majors) (s .minors) (args .t) (args .step) (args .e) (s .majors - args .e) (slanted .apart) (omega arith)
+          (omega arith) _ _ (omega (arith, here)) (there),
+      slant-behind (args .up) (s .minor) (s .majors) (s .minors) (args .t) (args .step + 1) (args .e) (s .majors - args .e) (slanted .apart)
+          (omega arith) (omega arith) _ _ (omega (arith, here)) (past),
     )
 
 same-length-2 : tie.Need-same-length-2
@@ -119,7 +123,9 @@ returns-3 c =
     let room = start-room (args .up) (s .minor) (s .majors) (s .minors) (length (args .buf .now)) (args .t) (omega arith) (slanted .room) in
     let here = c .before .before .before .before .before .before .before .before .start .ensures in
     let there = c .before .before .before .before .before .before .start2 .ensures in
-    dilate-both s (args .up) (args .bends .now) (args .e) (args .step) (args .buf .now) (args .t) _ here (omega (arith, room, here)) (s .majors - args .e) _ (omega arith) there _ (c .before .before .brighten-bent2 .ensures) (omega arith) (c .before .before .before .before .start3 .ensures)
+    dilate-both s (args .up) (args .bends .now) (args .e) (args .step) (args .buf .now) (args .t) _ here (omega (arith, room, here))
+    (s .majors - args .e) _ (omega arith) there _ (c .before .before .brighten-bent2 .ensures) (omega arith)
+    (c .before .before .before .before .start3 .ensures)
 
 pub dilate-slant-spec : {M : Type 1} → statement M
 dilate-slant-spec =

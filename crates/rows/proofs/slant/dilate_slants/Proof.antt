@@ -2,7 +2,7 @@
 use Prim.Native.Nat.{_-_, _≤_}
 use native.Mathlib.Omega.{arith}
 use Rattle.rows.specs.Rows.{RowsAre}
-use Rattle.rows.specs.Passes.{startOf, dilated}
+use Rattle.rows.specs.Passes.{rowStart, dilated}
 use Rattle.rows.proofs.Rowwise.{rows-none, rows-end}
 use Rattle.rows.proofs.Slants.{parted-slants, dilate-more}
 use borrow.Author.Needs.{needs}
@@ -10,7 +10,7 @@ use Rattle.rows.proofs.slant.dilate_slants.Statement.{statement}
 use Rattle.rows.proofs.slant.dilate_slants.Tie as tie
 
 abbrev Inv-loop : tie.InvT-loop
-Inv-loop buf₀ bends s up e step rows t₀ buf t = (t ≤ rows) × RowsAre (startOf up rows (s .minor)) (s .majors) 0 t (dilated s up bends e step buf₀) buf₀ buf
+Inv-loop buf₀ bends s up e step rows t₀ buf t = (t ≤ rows) × RowsAre (rowStart s up) (s .majors) 0 t (dilated s up bends e step buf₀) buf₀ buf
 
 abbrev μ-loop : tie.MeasureT-loop
 μ-loop buf₀ bends s up e step rows t₀ buf t = rows - t
@@ -22,8 +22,17 @@ dilate-slant-requires : tie.Need-dilate-slant-requires Inv-loop μ-loop
 dilate-slant-requires c κs =
     let pre = c .before .before .before .before .before .pre in
     let slanted = pre .0 in
-    let done = c .before .before .loop .inv .1 in
-    (record { sane = slanted .sane; next = slanted .next; apart = slanted .apart; room = omega (arith, slanted .room, done .same) }, c .before .loop-test .taken, pre .1, pre .2)
+    let done = c .before .before .loop .inv .1 in (
+      record {
+        sane = slanted .sane;
+        next = slanted .next;
+        apart = slanted .apart;
+        room = omega (arith, slanted .room, done .same);
+      },
+      c .before .loop-test .taken,
+      pre .1,
+      pre .2,
+    )
 
 add-t : tie.Need-add-t Inv-loop μ-loop
 add-t c = search needs
@@ -35,8 +44,12 @@ loop-again : tie.Need-loop-again Inv-loop μ-loop
 loop-again c =
     let args = c .before .before .before .before .before .before .before .before .args in
     let s = args .s in
-    let at = c .before .before .before .before .before .loop in
-    (omega arith, dilate-more s (args .up) (args .bends .now) (args .e) (args .step) (parted-slants (args .up) (s .minor) (s .majors) (s .minors) (c .before .before .before .before .before .before .before .before .pre .0 .apart)) (at .t) (at .inv .1) (c .before .before .dilate-slant .ensures) (c .before .before .before .before .loop-test .taken))
+    let at = c .before .before .before .before .before .loop in (
+      omega arith,
+      dilate-more s (args .up) (args .bends .now) (args .e) (args .step)
+          (parted-slants (args .up) (s .minor) (s .majors) (s .minors) (c .before .before .before .before .before .before .before .before .pre .0 .apart))
+          (at .t) (at .inv .1) (c .before .before .dilate-slant .ensures) (c .before .before .before .before .loop-test .taken),
+    )
 
 same-length : tie.Need-same-length Inv-loop μ-loop
 same-length c = c .before .loop .inv .1 .same

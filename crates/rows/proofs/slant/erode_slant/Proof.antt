@@ -29,7 +29,9 @@ returns c =
     let pre = c .before .before .before .before .before .before .before .before .before .pre in
     let slanted = pre .0 in
     let room = start-room (args .up) (s .minor) (s .majors) (s .minors) (length (args .buf .now)) (args .t) (omega arith) (slanted .room) in
-    erode-gone s (args .up) (args .bends .now) (args .e) (args .step) (args .buf .now) (args .t) _ (c .before .before .before .before .before .start .ensures) (omega (arith, room, c .before .before .before .before .before .start .ensures)) (c .before .before .blacken .ensures) (omega arith)
+    erode-gone s (args .up) (args .bends .now) (args .e) (args .step) (args .buf .now) (args .t) _
+    (c .before .before .before .before .before .start .ensures) (omega (arith, room, c .before .before .before .before .before .start .ensures))
+    (c .before .before .blacken .ensures) (omega arith)
 
 sub-n : tie.Need-sub-n
 sub-n c = search needs
@@ -66,7 +68,8 @@ darken-bent-requires c κs =
       omega (arith, next, there),
       omega (arith, room, here),
       omega arith,
-      slant-ahead (args .up) (s .minor) (s .majors) (s .minors) (args .t) (args .step) (args .e) (s .majors - args .e) (slanted .apart) (omega arith) (omega arith) _ _ (here) (omega (arith, there)),
+      slant-ahead (args .up) (s .minor) (s .majors) (s .minors) (args .t) (args .step) (args .e) (s .majors - args .e) (slanted .apart) (omega arith)
+          (omega arith) _ _ (here) (omega (arith, there)),
       inl (le-refl _),
     )
 
@@ -104,7 +107,10 @@ returns-2 c =
     let room = start-room (args .up) (s .minor) (s .majors) (s .minors) (length (args .buf .now)) (args .t) (omega arith) (slanted .room) in
     let here = c .before .before .before .before .before .before .before .before .before .before .before .before .before .before .before .before .start .ensures in
     let there = c .before .before .before .before .before .before .before .before .before .before .before .before .before .start2 .ensures in
-    erode-last s (args .up) (args .bends .now) (args .e) (args .step) (args .buf .now) (args .t) _ here (omega (arith, room, here)) (s .majors - args .e) _ (omega arith) (omega (arith, there)) (c .before .before .before .before .before .before .before .before .before .before .darken-bent .ensures) (c .before .before .before .before .before .before .blacken-bent .ensures) (c .before .before .blacken2 .ensures) (omega arith) (omega arith)
+    erode-last s (args .up) (args .bends .now) (args .e) (args .step) (args .buf .now) (args .t) _ here (omega (arith, room, here))
+    (s .majors - args .e) _ (omega arith) (omega (arith, there))
+    (c .before .before .before .before .before .before .before .before .before .before .darken-bent .ensures)
+    (c .before .before .before .before .before .before .blacken-bent .ensures) (c .before .before .blacken2 .ensures) (omega arith) (omega arith)
 
 add-start-2 : tie.Need-add-start-2
 add-start-2 c = search needs
@@ -140,8 +146,10 @@ darken-bent-requires-2 c κs =
       omega (arith, next, there),
       omega (arith, last, past),
       omega arith,
-      slant-ahead (args .up) (s .minor) (s .majors) (s .minors) (args .t) (args .step) (args .e) (s .majors - args .e) (slanted .apart) (omega arith) (omega arith) _ _ (here) (omega (arith, there)),
-      slant-ahead (args .up) (s .minor) (s .majors) (s .minors) (args .t) (args .step + 1) (args .e) (s .majors - args .e) (slanted .apart) (omega arith) (omega arith) _ _ (here) (omega (arith, past)),
+      slant-ahead (args .up) (s .minor) (s .majors) (s .minors) (args .t) (args .step) (args .e) (s .majors - args .e) (slanted .apart) (omega arith)
+          (omega arith) _ _ (here) (omega (arith, there)),
+      slant-ahead (args .up) (s .minor) (s .majors) (s .minors) (args .t) (args .step + 1) (args .e) (s .majors - args .e) (slanted .apart)
+          (omega arith) (omega arith) _ _ (here) (omega (arith, past)),
     )
 
 add-blacken-2 : tie.Need-add-blacken-2
@@ -168,7 +176,10 @@ returns-3 c =
     let room = start-room (args .up) (s .minor) (s .majors) (s .minors) (length (args .buf .now)) (args .t) (omega arith) (slanted .room) in
     let here = c .before .before .before .before .before .before .before .before .before .before .before .before .before .start .ensures in
     let there = c .before .before .before .before .before .before .before .before .before .before .start2 .ensures in
-    erode-both s (args .up) (args .bends .now) (args .e) (args .step) (args .buf .now) (args .t) _ here (omega (arith, room, here)) (s .majors - args .e) _ (omega arith) (omega (arith, there)) _ (c .before .before .before .before .before .before .darken-bent2 .ensures) (c .before .before .blacken3 .ensures) (omega arith) (omega (arith, c .before .before .before .before .before .before .before .before .start3 .ensures))
+    erode-both s (args .up) (args .bends .now) (args .e) (args .step) (args .buf .now) (args .t) _ here (omega (arith, room, here))
+    (s .majors - args .e) _ (omega arith) (omega (arith, there)) _ (c .before .before .before .before .before .before .darken-bent2 .ensures)
+    (c .before .before .blacken3 .ensures) (omega arith)
+    (omega (arith, c .before .before .before .before .before .before .before .before .start3 .ensures))
 
 pub erode-slant-spec : {M : Type 1} → statement M
 erode-slant-spec =

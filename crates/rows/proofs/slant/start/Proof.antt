@@ -20,7 +20,8 @@ mul-result c =
     let s = c .before .args .s in
     let t = c .before .args .t in
     let sane = c .before .pre .0 in
-    let fits : (s .minors - 1 - t) * s .minor ≤ longest * widest = mul-le-mul {n₁ = (s .minors - 1 - t)} {m₁ = s .minor} {n₂ = longest} {m₂ = widest} (omega (arith, sane .minors)) (sane .minor) in
+    let fits : (s .minors - 1 - t) * s .minor ≤ longest * widest = mul-le-mul {n₁ = (s .minors - 1 - t)} {m₁ = s .minor} {n₂ = longest} {m₂ = widest}
+    (omega (arith, sane .minors)) (sane .minor) in
     omega arith
 
 mul-result-2 : tie.Need-mul-result-2

@@ -28,9 +28,14 @@ growth-requires c κs = search needs
 
 dilate-rows-requires : tie.Need-dilate-rows-requires Inv-loop μ-loop
 dilate-rows-requires c κs =
-    let down = c .before .before .before .before .before .pre .0 in
-    let at = c .before .before .before .loop in
-    (record { sane = down .sane; next = down .next; apart = down .apart; room = omega (arith, down .room, at .inv .0) }, omega (arith, at .inv, c .before .growth .ensures, c .before .before .loop-test .taken), omega (arith, c .before .before .before .before .before .pre, at .inv, c .before .growth .ensures))
+    let pre = c .before .before .before .before .before .pre in
+    let down = pre .0 in
+    let at = c .before .before .before .loop in (
+      record { sane = down .sane; next = down .next; apart = down .apart; room = omega (arith, down .room, at .inv .0) },
+      omega
+          (arith, at .inv, c .before .growth .ensures, c .before .before .loop-test .taken),
+      omega (arith, pre, at .inv, c .before .growth .ensures),
+    )
 
 add-w : tie.Need-add-w Inv-loop μ-loop
 add-w c = search needs
@@ -40,19 +45,24 @@ loop-less c = search needs
 
 loop-again : tie.Need-loop-again Inv-loop μ-loop
 loop-again c =
-    let s = c .before .before .before .before .before .before .before .before .args .s in
-    let length = c .before .before .before .before .before .before .before .before .args .length in
+    let args = c .before .before .before .before .before .before .before .before .args in
+    let s = args .s in
+    let length = args .length in
     let pre = c .before .before .before .before .before .before .before .before .pre in
     let at = c .before .before .before .before .before .before .loop in
     let grown = c .before .before .before .before .growth in
     let pass = c .before .before .dilate-rows in
     let flat = side-by-side s (pre .0 .next) in
     let parted = parted-rows (s .major) (s .minors) (s .majors) (pre .0 .apart) in
-    let whole = rows-join parted (rows-before-all (shift s) (spot s) (s .major) (s .minors) (s .majors) (grown .result) flat parted _) (pass .ensures) zero-le (omega (arith, at .inv, pre, grown .ensures)) (le-refl (s .majors)) in (
+    let whole = rows-join parted (rows-before-all (shift s) (spot s) (s .major) (s .minors) (s .majors) (grown .result) flat parted _) (pass .ensures)
+    zero-le (omega (arith, at .inv, pre, grown .ensures)) (le-refl (s .majors)) in (
       pass .kept .0 ∙ at .inv .0,
       omega (arith, at .inv),
       omega (arith, at .inv, grown .ensures),
-      record { pixels = λ f e. dilated-step (shift s) (spot s) (s .minors) (s .majors) f length (at .w) (grown .result) (at .inv .3 .pixels f e) (rows-pixels whole (spot s) flat) (omega (arith, at .inv)) (omega (arith, grown .ensures)) },
+      record {
+        pixels = λ f e. dilated-step (shift s) (spot s) (s .minors) (s .majors) f length (at .w) (grown .result) (at .inv .3 .pixels f e)
+            (rows-pixels whole (spot s) flat) (omega (arith, at .inv)) (omega (arith, grown .ensures));
+      },
     )
 
 same-length : tie.Need-same-length Inv-loop μ-loop

@@ -26,9 +26,14 @@ growth-requires c κs = search needs
 
 erode-rows-requires : tie.Need-erode-rows-requires Inv-loop μ-loop
 erode-rows-requires c κs =
-    let down = c .before .before .before .before .before .pre .0 in
-    let at = c .before .before .before .loop in
-    (record { sane = down .sane; next = down .next; apart = down .apart; room = omega (arith, down .room, at .inv .0) }, omega (arith, at .inv, c .before .growth .ensures, c .before .before .loop-test .taken), omega (arith, c .before .before .before .before .before .pre, at .inv, c .before .growth .ensures))
+    let pre = c .before .before .before .before .before .pre in
+    let down = pre .0 in
+    let at = c .before .before .before .loop in (
+      record { sane = down .sane; next = down .next; apart = down .apart; room = omega (arith, down .room, at .inv .0) },
+      omega
+          (arith, at .inv, c .before .growth .ensures, c .before .before .loop-test .taken),
+      omega (arith, pre, at .inv, c .before .growth .ensures),
+    )
 
 add-w : tie.Need-add-w Inv-loop μ-loop
 add-w c = search needs
@@ -38,8 +43,9 @@ loop-less c = search needs
 
 loop-again : tie.Need-loop-again Inv-loop μ-loop
 loop-again c =
-    let s = c .before .before .before .before .before .before .before .before .args .s in
-    let length = c .before .before .before .before .before .before .before .before .args .length in
+    let args = c .before .before .before .before .before .before .before .before .args in
+    let s = args .s in
+    let length = args .length in
     let pre = c .before .before .before .before .before .before .before .before .pre in
     let at = c .before .before .before .before .before .before .loop in
     let grown = c .before .before .before .before .growth in
@@ -47,7 +53,10 @@ loop-again c =
       pass .kept .0 ∙ at .inv .0,
       omega (arith, at .inv),
       omega (arith, at .inv, grown .ensures),
-      record { pixels = eroded-step (shift s) (spot s) (s .minors) (s .majors) _ (at .w) (grown .result) (at .inv .3 .pixels) (rows-pixels (pass .ensures) (spot s) (side-by-side s (pre .0 .next))) (omega (arith, at .inv)) (omega (arith, grown .ensures)) },
+      record {
+        pixels = eroded-step (shift s) (spot s) (s .minors) (s .majors) _ (at .w) (grown .result) (at .inv .3 .pixels)
+            (rows-pixels (pass .ensures) (spot s) (side-by-side s (pre .0 .next))) (omega (arith, at .inv)) (omega (arith, grown .ensures));
+      },
     )
 
 same-length : tie.Need-same-length Inv-loop μ-loop

@@ -16,10 +16,12 @@ same-length c = search needs
 
 returns : tie.Need-returns
 returns c =
-    let s = c .before .before .before .before .before .before .before .args .s in
-    let length = c .before .before .before .before .before .before .before .args .length in
+    let args = c .before .before .before .before .before .before .before .args in
+    let s = args .s in
+    let length = args .length in
     let down = c .before .before .before .before .before .before .before .pre .0 in
-    opened-none (shift s) (spot s) (s .minors) (s .majors) _ length (c .before .before .before .before .if1 .taken) (rows-pixels (c .before .before .clear-rows .ensures) (spot s) (side-by-side s (down .next)))
+    opened-none (shift s) (spot s) (s .minors) (s .majors) _ length (c .before .before .before .before .if1 .taken)
+    (rows-pixels (c .before .before .clear-rows .ensures) (spot s) (side-by-side s (down .next)))
 
 erode-down-requires : tie.Need-erode-down-requires
 erode-down-requires c κs = search needs
@@ -35,10 +37,13 @@ same-length-2 c = search needs
 
 returns-2 : tie.Need-returns-2
 returns-2 c =
-    let s = c .before .before .before .before .before .before .before .before .before .before .before .args .s in
-    let length = c .before .before .before .before .before .before .before .before .before .before .before .args .length in
-    let buf = c .before .before .before .before .before .before .before .before .before .before .before .args .buf .now in
-    dilated-end (shift s) (spot s) (s .minors) (s .majors) buf length (c .before .before .before .before .before .before .before .before .before .before .before .pre .1) (c .before .before .dilate-down .ensures .pixels buf (c .before .before .before .before .before .before .erode-down .ensures))
+    let args = c .before .before .before .before .before .before .before .before .before .before .before .args in
+    let s = args .s in
+    let length = args .length in
+    let buf = args .buf .now in
+    dilated-end (shift s) (spot s) (s .minors) (s .majors) buf length
+    (c .before .before .before .before .before .before .before .before .before .before .before .pre .1)
+    (c .before .before .dilate-down .ensures .pixels buf (c .before .before .before .before .before .before .erode-down .ensures))
 
 pub open-down-spec : {M : Type 1} → statement M
 open-down-spec =

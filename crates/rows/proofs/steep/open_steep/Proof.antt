@@ -18,16 +18,18 @@ is-frame-requires c κs = search needs
 returns : tie.Need-returns
 returns c =
     let frame = sym (c .before .is-frame .ensures) ∙ not-true _ (c .if1 .taken) in
-    steep-kept (c .before .before .before .args .shape) (c .before .before .before .args .d) (c .before .before .before .args .length) (c .before .before .before .args .buf .now) (rw frame)
+    steep-kept (c .before .before .before .args .shape) (c .before .before .before .args .d) (c .before .before .before .args .length)
+    (c .before .before .before .args .buf .now) (rw frame)
 
 is-direction-requires : tie.Need-is-direction-requires
 is-direction-requires c κs = search needs
 
 returns-2 : tie.Need-returns-2
 returns-2 c =
+    let args = c .before .before .before .before .before .args in
     let frame = sym (c .before .before .before .is-frame .ensures) ∙ not-false _ (c .before .before .if1 .left) in
     let direction = sym (c .before .is-direction .ensures) ∙ not-true _ (c .if2 .taken) in
-    steep-kept (c .before .before .before .before .before .args .shape) (c .before .before .before .before .before .args .d) (c .before .before .before .before .before .args .length) (c .before .before .before .before .before .args .buf .now) (rw (frame, direction))
+    steep-kept (args .shape) (args .d) (args .length) (args .buf .now) (rw (frame, direction))
 
 -- rules 1 and 2 accept the frame and the direction
 accepted : (c : tie.Else2) → Accepted (c .before .before .before .before .before .args .shape) (c .before .before .before .before .before .args .d)
@@ -41,28 +43,31 @@ is-shallow-requires c κs = search needs
 
 returns-3 : tie.Need-returns-3
 returns-3 c =
+    let args = c .before .before .before .before .before .before .before .args in
     let ok = accepted (c .before .before) in
     let flat = sym (c .before .is-shallow .ensures) ∙ c .if3 .taken in
-    steep-kept (c .before .before .before .before .before .before .before .args .shape) (c .before .before .before .before .before .before .before .args .d) (c .before .before .before .before .before .before .before .args .length) (c .before .before .before .before .before .before .before .args .buf .now) (rw (ok .frame, ok .direction, flat))
+    steep-kept (args .shape) (args .d) (args .length) (args .buf .now) (rw (ok .frame, ok .direction, flat))
 
 steep : (c : tie.Else3) → shallow (c .before .before .before .before .before .before .before .args .d) ≡ false
 steep c = sym (c .before .is-shallow .ensures) ∙ c .if3 .left
 
 returns-4 : tie.Need-returns-4
 returns-4 c =
+    let args = c .before .before .before .before .before .before .before .before .args in
     let ok = accepted (c .before .before .before) in
     let short = lt-leb _ _ (c .if4 .taken) in
-    steep-kept (c .before .before .before .before .before .before .before .before .args .shape) (c .before .before .before .before .before .before .before .before .args .d) (c .before .before .before .before .before .before .before .before .args .length) (c .before .before .before .before .before .before .before .before .args .buf .now) (rw (ok .frame, ok .direction, steep (c .before), short))
+    steep-kept (args .shape) (args .d) (args .length) (args .buf .now) (rw (ok .frame, ok .direction, steep (c .before), short))
 
 bytes-requires : tie.Need-bytes-requires
 bytes-requires c κs = search needs
 
 returns-5 : tie.Need-returns-5
 returns-5 c =
+    let args = c .before .before .before .before .before .before .before .before .before .before .args in
     let ok = accepted (c .before .before .before .before .before) in
-    let some = le-leb 1 (c .before .before .before .before .before .before .before .before .before .before .args .length) (c .before .before .if4 .left) in
-    let short = lt-leb (needed (c .before .before .before .before .before .before .before .before .before .before .args .shape)) (length (c .before .before .before .before .before .before .before .before .before .before .args .buf .now)) (rw (bytes-needed ok (c .before .bytes .ensures)) at (c .if5 .taken)) in
-    steep-kept (c .before .before .before .before .before .before .before .before .before .before .args .shape) (c .before .before .before .before .before .before .before .before .before .before .args .d) (c .before .before .before .before .before .before .before .before .before .before .args .length) (c .before .before .before .before .before .before .before .before .before .before .args .buf .now) (rw (ok .frame, ok .direction, steep (c .before .before .before), some, short))
+    let some = le-leb 1 (args .length) (c .before .before .if4 .left) in
+    let short = lt-leb (needed (args .shape)) (length (args .buf .now)) (rw (bytes-needed ok (c .before .bytes .ensures)) at (c .if5 .taken)) in
+    steep-kept (args .shape) (args .d) (args .length) (args .buf .now) (rw (ok .frame, ok .direction, steep (c .before .before .before), some, short))
 
 sweep-of-requires : tie.Need-sweep-of-requires
 sweep-of-requires c κs = search needs
@@ -82,7 +87,9 @@ returns-6 c =
     let ok = accepted (c .before .before .before .before .before .before .before .before .before .before) in
     let swept = c .before .before .before .sweep-of .ensures ∙ sweep-accepted ok in
     let room = rw (bytes-needed ok (c .before .before .before .before .before .before .bytes .ensures)) at (c .before .before .before .before .before .if5 .left) in
-    steep-done ok (steep (c .before .before .before .before .before .before .before .before)) (c .before .before .before .before .before .before .before .before .before .before .before .before .before .before .before .args .length) _ _ (c .before .before .before .before .before .before .before .if4 .left) room (rw swept at (c .before .before .open-down .ensures))
+    steep-done ok (steep (c .before .before .before .before .before .before .before .before))
+    (c .before .before .before .before .before .before .before .before .before .before .before .before .before .before .before .args .length) _ _
+    (c .before .before .before .before .before .before .before .if4 .left) room (rw swept at (c .before .before .open-down .ensures))
 
 pub open-steep-spec : {M : Type 1} → statement M
 open-steep-spec =
