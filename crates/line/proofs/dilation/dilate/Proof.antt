@@ -64,12 +64,14 @@ same-length c = search needs
 
 returns-2 : tie.Need-returns-2
 returns-2 c =
-    let src = c .before .before .before .before .before .before .before .before .before .args .src .now in
-    let L = c .before .before .before .before .before .before .before .before .before .args .length in
+    let args = c .before .before .before .before .before .before .before .before .before .args in
+    let src = args .src .now in
+    let L = args .length in
     let a = c .before .before .before .before .before .before .refusal .result in
     record {
       answers = c .before .before .before .before .before .before .refusal .ensures;
-      written = front-done a (dilated src L) _ (c .before .before .before .before .if1 .left) (dilatedCount (length src) L) (dilated-length src L) (c .before .before .dilated-into .ensures);
+      written = front-done a (dilated src L) _ (c .before .before .before .before .if1 .left) (dilatedCount (length src) L) (dilated-length src L)
+          (c .before .before .dilated-into .ensures);
     }
 
 pub dilate-spec : {M : Type 1} → statement M

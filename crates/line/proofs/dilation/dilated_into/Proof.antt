@@ -21,13 +21,16 @@ same-length c = search needs
 
 returns : tie.Need-returns
 returns c =
-    let src = c .before .before .before .before .before .before .before .before .before .before .before .before .before .before .args .src .now in
-    let length = c .before .before .before .before .before .before .before .before .before .before .before .before .before .before .args .length in
+    let args = c .before .before .before .before .before .before .before .before .before .before .before .before .before .before .args in
+    let src = args .src .now in
+    let length = args .length in
     let copy = c .before .before .before .before .before .before .before .before .before .before .copy .ensures in
     let clear = c .before .before .before .before .before .before .clear .ensures in
     let grown = c .before .before .dilate-lanes in
     let dilates = dilates-alone (grown .ensures) (omega (arith, clear .same)) (omega arith) in
-    dilated-passes src copy clear dilates refl refl (omega arith) (copy .same ∙ c .before .before .before .before .before .before .before .before .before .before .before .before .before .before .pre .2) (grown .kept .0 ∙ clear .same)
+    dilated-passes src copy clear dilates refl refl (omega arith)
+    (copy .same ∙ c .before .before .before .before .before .before .before .before .before .before .before .before .before .before .pre .2)
+    (grown .kept .0 ∙ clear .same)
 
 pub dilated-into-spec : {M : Type 1} → statement M
 dilated-into-spec =

@@ -60,14 +60,16 @@ same-length c = search needs
 
 returns-3 : tie.Need-returns-3
 returns-3 c =
-    let src = c .before .before .before .before .before .before .before .before .before .before .args .src .now in
-    let dst = c .before .before .before .before .before .before .before .before .before .before .args .dst .now in
-    let L = c .before .before .before .before .before .before .before .before .before .before .args .length in
+    let args = c .before .before .before .before .before .before .before .before .before .before .args in
+    let src = args .src .now in
+    let dst = args .dst .now in
+    let L = args .length in
     let a = c .before .before .before .before .before .before .before .refusal .result in
     let count : length (eroded src L) ≡ length src - L + 1 = eroded-length src L ∙ omega arith in
     record {
       answers = c .before .before .before .before .before .before .before .refusal .ensures;
-      written = front-done a (eroded src L) dst (c .before .before .before .before .before .if1 .left) (length src - L + 1) count (c .before .before .eroded-into .ensures);
+      written = front-done a (eroded src L) dst (c .before .before .before .before .before .if1 .left) (length src - L + 1) count
+          (c .before .before .eroded-into .ensures);
     }
 
 pub erode-spec : {M : Type 1} → statement M

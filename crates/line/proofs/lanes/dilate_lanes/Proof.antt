@@ -48,8 +48,9 @@ loop-less c = search needs
 
 loop-again : tie.Need-loop-again Inv-loop μ-loop
 loop-again c =
-    let lanes = c .before .before .before .before .before .before .before .before .args .lanes in
-    let pixels = c .before .before .before .before .before .before .before .before .args .pixels in
+    let args = c .before .before .before .before .before .before .before .before .args in
+    let lanes = args .lanes in
+    let pixels = args .pixels in
     let pre = c .before .before .before .before .before .before .before .before .pre in
     let at = c .before .before .before .before .before .before .loop in
     let grown = c .before .before .before .before .growth in
@@ -57,7 +58,8 @@ loop-again c =
       omega (arith, pass .kept .0, at .inv .0),
       omega (arith, at .inv),
       omega (arith, grown .ensures, at .inv),
-      lanes-dilate-more lanes pixels (at .w) (grown .result) (at .inv .3) (pass .ensures) (omega (arith, at .inv .0, pre .2)) (omega (arith, grown .ensures)) (omega (arith, grown .ensures, at .inv, pre)),
+      lanes-dilate-more lanes pixels (at .w) (grown .result) (at .inv .3) (pass .ensures) (omega (arith, at .inv .0, pre .2))
+          (omega (arith, grown .ensures)) (omega (arith, grown .ensures, at .inv, pre)),
     )
 
 same-length : tie.Need-same-length Inv-loop μ-loop

@@ -16,10 +16,12 @@ same-length c = search needs
 
 returns : tie.Need-returns
 returns c =
-    let lanes = c .before .before .before .before .before .before .args .lanes in
-    let pixels = c .before .before .before .before .before .before .args .pixels in
-    let length = c .before .before .before .before .before .before .args .length in
-    lanes-short lanes pixels length (c .before .before .before .before .if1 .taken) (c .before .before .clear .ensures) (c .before .before .before .before .before .before .pre .1)
+    let args = c .before .before .before .before .before .before .args in
+    let lanes = args .lanes in
+    let pixels = args .pixels in
+    let length = args .length in
+    lanes-short lanes pixels length (c .before .before .before .before .if1 .taken) (c .before .before .clear .ensures)
+    (c .before .before .before .before .before .before .pre .1)
 
 erode-lanes-requires : tie.Need-erode-lanes-requires
 erode-lanes-requires c κs = search needs
@@ -51,12 +53,15 @@ same-length-2 c = search needs
 
 returns-2 : tie.Need-returns-2
 returns-2 c =
-    let lanes = c .before .before .before .before .before .before .before .before .before .before .before .before .before .before .args .lanes in
-    let pixels = c .before .before .before .before .before .before .before .before .before .before .before .before .before .before .args .pixels in
-    let length = c .before .before .before .before .before .before .before .before .before .before .before .before .before .before .args .length in
+    let args = c .before .before .before .before .before .before .before .before .before .before .before .before .before .before .args in
+    let lanes = args .lanes in
+    let pixels = args .pixels in
+    let length = args .length in
     let eroded = c .before .before .before .before .before .before .before .before .before .before .erode-lanes in
     let pre = c .before .before .before .before .before .before .before .before .before .before .before .before .before .before .pre in
-    lanes-opened lanes pixels length (eroded .ensures) (c .before .before .before .before .before .before .clear2 .ensures) (eroded .kept .0 ∙ pre .1) (c .before .before .dilate-lanes .ensures) (pre .0) (c .before .before .before .before .before .before .before .before .before .before .before .before .if1 .left)
+    lanes-opened lanes pixels length (eroded .ensures) (c .before .before .before .before .before .before .clear2 .ensures) (eroded .kept .0 ∙ pre .1)
+    (c .before .before .dilate-lanes .ensures) (pre .0)
+    (c .before .before .before .before .before .before .before .before .before .before .before .before .if1 .left)
 
 pub open-all-spec : {M : Type 1} → statement M
 open-all-spec =

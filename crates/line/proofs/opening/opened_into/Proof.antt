@@ -21,9 +21,11 @@ same-length c = search needs
 
 returns : tie.Need-returns
 returns c =
-    let src = c .before .before .before .before .before .before .before .before .before .before .args .src .now in
-    let length = c .before .before .before .before .before .before .before .before .before .before .args .length in
-    let copied = filled-copy src (c .before .before .before .before .before .before .copy .ensures) refl (c .before .before .before .before .before .before .before .before .before .before .pre .1) in
+    let args = c .before .before .before .before .before .before .before .before .before .before .args in
+    let src = args .src .now in
+    let length = args .length in
+    let copied = filled-copy src (c .before .before .before .before .before .before .copy .ensures) refl
+    (c .before .before .before .before .before .before .before .before .before .before .pre .1) in
     opens-alone (c .before .before .open-all .ensures) (omega arith) (omega arith) ∙ ap (λ (l : List ℕ). opened l length) copied
 
 pub opened-into-spec : {M : Type 1} → statement M

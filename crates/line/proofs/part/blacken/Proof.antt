@@ -38,10 +38,12 @@ same-length c = search needs
 
 returns-3 : tie.Need-returns-3
 returns-3 c =
-    let at = c .before .before .before .before .before .before .before .args .at in
-    let count = c .before .before .before .before .before .before .before .args .count in
-    let buf = c .before .before .before .before .before .before .before .args .buf .now in
-    cleared-part buf _ at (at + count - at) (omega arith) (c .before .before .clear .kept .0 ∙ length-take-le _ _ (omega (arith, length-drop at buf))) count _ (omega arith) (c .before .before .clear .ensures) (length-take-le _ _ (omega (arith, length-drop at buf)))
+    let args = c .before .before .before .before .before .before .before .args in
+    let at = args .at in
+    let count = args .count in
+    let buf = args .buf .now in
+    cleared-part buf _ at (at + count - at) (omega arith) (c .before .before .clear .kept .0 ∙ length-take-le _ _ (omega (arith, length-drop at buf)))
+    count _ (omega arith) (c .before .before .clear .ensures) (length-take-le _ _ (omega (arith, length-drop at buf)))
 
 pub blacken-spec : {M : Type 1} → statement M
 blacken-spec =

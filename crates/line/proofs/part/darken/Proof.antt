@@ -44,11 +44,14 @@ same-length c = search needs
 
 returns-4 : tie.Need-returns-4
 returns-4 c =
-    let at = c .before .before .before .before .before .before .before .before .args .at in
-    let count = c .before .before .before .before .before .before .before .before .args .count in
-    let dist = c .before .before .before .before .before .before .before .before .args .d in
-    let buf = c .before .before .before .before .before .before .before .before .args .buf .now in
-    darkened-part buf _ at (at + dist + count - at) (omega arith) (c .before .before .narrow .kept .0 ∙ length-take-le _ _ (omega (arith, length-drop at buf))) count dist (omega arith) (c .before .before .narrow .ensures)
+    let args = c .before .before .before .before .before .before .before .before .args in
+    let at = args .at in
+    let count = args .count in
+    let dist = args .d in
+    let buf = args .buf .now in
+    darkened-part buf _ at (at + dist + count - at) (omega arith)
+    (c .before .before .narrow .kept .0 ∙ length-take-le _ _ (omega (arith, length-drop at buf))) count dist (omega arith)
+    (c .before .before .narrow .ensures)
 
 pub darken-spec : {M : Type 1} → statement M
 darken-spec =

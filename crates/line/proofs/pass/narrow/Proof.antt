@@ -26,7 +26,8 @@ narrow-sixteens-requires : tie.Need-narrow-sixteens-requires
 narrow-sixteens-requires c κs = let blocks = c .before .before .before .narrow-blocks .ensures in (blocks .0, omega (arith, blocks .1 .same))
 
 put-sixteen-requires : tie.Need-put-sixteen-requires
-put-sixteen-requires c κs = omega (arith, c .before .before .before .narrow-sixteens .ensures .3 .same, c .before .before .before .before .before .before .before .narrow-blocks .ensures .1 .same)
+put-sixteen-requires c κs =
+    omega (arith, c .before .before .before .narrow-sixteens .ensures .3 .same, c .before .before .before .before .before .before .before .narrow-blocks .ensures .1 .same)
 
 same-length-2 : tie.Need-same-length-2
 same-length-2 c = search needs
@@ -38,7 +39,8 @@ returns-2 c =
     let blocks = c .before .before .before .before .before .before .before .before .before .before .narrow-blocks .ensures in
     let sixteens = c .before .before .before .before .before .before .narrow-sixteens .ensures in
     let wide = c .before .before .before .before .before .before .before .before .before .before .before .before .before .before .if1 .left in
-    narrowed-last (block .result) (a .m - 16) (a .d) (narrowed-join (a .d) (blocks .1) (sixteens .3) (sixteens .0)) (block .ensures) (c .before .before .put-sixteen .ensures)
+    narrowed-last (block .result) (a .m - 16) (a .d) (narrowed-join (a .d) (blocks .1) (sixteens .3) (sixteens .0)) (block .ensures)
+    (c .before .before .put-sixteen .ensures)
     (omega (arith, sixteens .2)) (sixteens .1) (omega (arith, wide))
 
 pub narrow-spec : {M : Type 1} → statement M

@@ -43,8 +43,11 @@ loop-again : tie.Need-loop-again Inv-loop μ-loop
 loop-again c =
     let d = c .before .before .before .before .before .before .args .d in
     let at = c .before .before .before .before .loop in
-    let filled = at .inv .1 in
-    (omega arith, filled-more filled (omega arith) (omega (arith, filled .same)) (c .darker .ensures ∙ ap₂ min (filled .above (at .i) (omega arith)) (filled .above (at .i + d) (omega arith))))
+    let filled = at .inv .1 in (
+      omega arith,
+      filled-more filled (omega arith) (omega (arith, filled .same))
+          (c .darker .ensures ∙ ap₂ min (filled .above (at .i) (omega arith)) (filled .above (at .i + d) (omega arith))),
+    )
 
 same-length : tie.Need-same-length Inv-loop μ-loop
 same-length c = c .before .loop .inv .1 .same

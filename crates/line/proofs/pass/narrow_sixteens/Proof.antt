@@ -38,8 +38,12 @@ loop-again c =
     let d = c .before .before .before .before .before .before .before .before .before .args .d in
     let at = c .before .before .before .before .before .before .before .loop in
     let more = c .before .before .before .before .before .before .loop-test .taken in
-    let block = c .before .before .before .before .darker-sixteen in
-    (omega (arith, at .inv .0), omega (arith, more), narrowed-block 16 (block .result) (at .i) d (at .inv .2) (at .inv .0) (block .ensures) (c .before .before .put-sixteen .ensures))
+    let block = c .before .before .before .before .darker-sixteen in (
+      omega (arith, at .inv .0),
+      omega (arith, more),
+      narrowed-block 16 (block .result) (at .i) d (at .inv .2) (at .inv .0) (block .ensures)
+          (c .before .before .put-sixteen .ensures),
+    )
 
 same-length : tie.Need-same-length Inv-loop μ-loop
 same-length c = search needs

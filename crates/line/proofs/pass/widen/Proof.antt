@@ -28,7 +28,8 @@ widen-sixteens-requires : tie.Need-widen-sixteens-requires
 widen-sixteens-requires c κs = let blocks = c .before .before .before .widen-blocks .ensures in omega (arith, blocks .0, blocks .1 .same)
 
 put-sixteen-requires : tie.Need-put-sixteen-requires
-put-sixteen-requires c κs = omega (arith, c .before .before .before .widen-sixteens .ensures .2 .same, c .before .before .before .before .before .before .before .widen-blocks .ensures .1 .same)
+put-sixteen-requires c κs =
+    omega (arith, c .before .before .before .widen-sixteens .ensures .2 .same, c .before .before .before .before .before .before .before .widen-blocks .ensures .1 .same)
 
 same-length-2 : tie.Need-same-length-2
 same-length-2 c = search needs
@@ -40,7 +41,8 @@ returns-2 c =
     let blocks = c .before .before .before .before .before .before .before .before .before .before .widen-blocks .ensures in
     let sixteens = c .before .before .before .before .before .before .widen-sixteens .ensures in
     let wide = c .before .before .before .before .before .before .before .before .before .before .before .before .before .before .if1 .left in
-    widened-first (block .result) (a .d) (widened-join (a .d) (blocks .1) (sixteens .2) (omega (arith, sixteens .0)) (blocks .0)) (block .ensures) (c .before .before .put-sixteen .ensures)
+    widened-first (block .result) (a .d) (widened-join (a .d) (blocks .1) (sixteens .2) (omega (arith, sixteens .0)) (blocks .0)) (block .ensures)
+    (c .before .before .put-sixteen .ensures)
     (omega arith) (omega (arith, sixteens .1)) (omega (arith, wide))
 
 pub widen-spec : {M : Type 1} → statement M

@@ -25,7 +25,8 @@ strip-bytes-requires c κs = search needs
 directions-into-requires : tie.Need-directions-into-requires
 directions-into-requires c κs =
     let a = c .before .before .before .before .before .before .before .before .before .args in
-    let ready = directions-ready (a .shape) (a .length) (size (a .src .now)) (size (a .dst .now)) (size (a .scratch .now)) (c .before .before .before .before .before .refusal .ensures) (c .before .before .before .if1 .left) in
+    let ready = directions-ready (a .shape) (a .length) (size (a .src .now)) (size (a .dst .now)) (size (a .scratch .now))
+    (c .before .before .before .before .before .refusal .ensures) (c .before .before .before .if1 .left) in
     let behind = c .before .before .strip-bytes .ensures ∙ bytes-by (a .shape) (ready .0 .ok .frame) in
     (ready .0, behind, omega (arith, behind, ready .1))
 

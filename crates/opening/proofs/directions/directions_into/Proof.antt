@@ -94,12 +94,15 @@ loop-again c =
     let rows = c .before .before .before .before .before .before .before .before .before .before .before .before .open-rows in
     let fits = tail-same (a .behind) (a .scratch .now) (rows .last .1 .1 .1 .1 .0) (rows .kept .1 .1 .1 .1 .0) (omega (arith, pre .2)) in
     let ready =
-    ready-numbered (a .shape) (a .length) _ _ _ n (omega (arith, c .before .before .before .before .before .before .before .before .loop-test .taken)) (c .before .before .before .before .before .before .before .numbered .ensures) (loop .inv .3 .same ∙ c .before .before .before .before .before .before .before .before .before .before .before .before .before .before .before .before .darken .kept .1 .0)
+    ready-numbered (a .shape) (a .length) _ _ _ n (omega (arith, c .before .before .before .before .before .before .before .before .loop-test .taken))
+    (c .before .before .before .before .before .before .before .numbered .ensures)
+    (loop .inv .3 .same ∙ c .before .before .before .before .before .before .before .before .before .before .before .before .before .before .before .before .darken .kept .1 .0)
     (loop .inv .2 ∙ fits) (pre .0) in
     let claimed = c .before .before .before .before .claim-frame .ensures in
     let claim =
     claimed .fitted
-    (claim-fits (a .shape) d (a .length) (size (a .src .now)) (size (loop .dst)) (size (loop .scratch)) (ready-fits (a .shape) d (a .length) _ _ _ ready) (omega (arith, pre .1, pre .2, loop .inv .2, fits))) in
+    (claim-fits (a .shape) d (a .length) (size (a .src .now)) (size (loop .dst)) (size (loop .scratch))
+    (ready-fits (a .shape) d (a .length) _ _ _ ready) (omega (arith, pre .1, pre .2, loop .inv .2, fits))) in
     let is = c .before .before .before .before .before .before .before .numbered .ensures in
     let v : ℕ → ℕ → ℕ → ℕ = inDirection (a .src .now) (a .shape) (a .length) in
     let new : Direction → ℕ → ℕ → ℕ = λ d x y. openedPixel (a .src .now) (a .shape) d (a .length) x y in (
@@ -125,7 +128,8 @@ same-length-2 : tie.Need-same-length-2 Inv-loop μ-loop
 same-length-2 c =
     let a = c .before .before .before .before .before .before .before .before .before .before .before .before .before .args in
     let rows = c .before .before .before .before .open-rows in
-    c .before .loop .inv .2 ∙ tail-same (a .behind) (a .scratch .now) (rows .last .1 .1 .1 .1 .0) (rows .kept .1 .1 .1 .1 .0) (omega (arith, c .before .before .before .before .before .before .before .before .before .before .before .before .before .pre .2))
+    c .before .loop .inv .2 ∙ tail-same (a .behind) (a .scratch .now) (rows .last .1 .1 .1 .1 .0) (rows .kept .1 .1 .1 .1 .0)
+    (omega (arith, c .before .before .before .before .before .before .before .before .before .before .before .before .before .pre .2))
 
 returns : tie.Need-returns Inv-loop μ-loop
 returns c =

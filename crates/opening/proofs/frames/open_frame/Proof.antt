@@ -20,7 +20,8 @@ returns c = record {
 opened-into-requires : tie.Need-opened-into-requires
 opened-into-requires c κs =
     let a = c .before .before .before .before .before .before .before .before .args in
-    open-ready (a .shape) (a .length) (size (a .src .now)) (size (a .dst .now)) (size (a .scratch .now)) (a .d) (c .before .before .before .before .refusal .ensures) (c .before .before .if1 .left)
+    open-ready (a .shape) (a .length) (size (a .src .now)) (size (a .dst .now)) (size (a .scratch .now)) (a .d)
+    (c .before .before .before .before .refusal .ensures) (c .before .before .if1 .left)
 
 same-length : tie.Need-same-length
 same-length c = search needs

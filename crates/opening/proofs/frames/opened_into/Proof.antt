@@ -30,7 +30,8 @@ returns c =
     let a = c .before .before .before .before .before .before .before .before .before .args in
     let pre = c .before .before .before .before .before .before .before .before .before .pre in
     let told = c .before .before .before .before .before .struct-told .given in
-    let flat : natAbs (a .d .q) ≡ 0 = ap natAbs (sym (back (a .d .q) (told .1 .0 .1))) ∙ ap (λ (n : ℕ). natAbs (toZ w64 n)) (c .before .before .before .before .if1 .taken) in
+    let flat : natAbs (a .d .q) ≡ 0 = ap natAbs (sym (back (a .d .q) (told .1 .0 .1))) ∙ ap (λ (n : ℕ). natAbs (toZ w64 n))
+    (c .before .before .before .before .if1 .taken) in
     painted-as (openedPixel (a .src .now) (a .shape) (a .d) (a .length)) (c .before .before .open-rows .ensures)
     (λ x y h l. sym (along-opened (a .src .now) (a .shape) (a .d) (pre .ok) flat (pre .source) (a .length) x y (pre .some) h l))
 
@@ -58,8 +59,10 @@ returns-2 c =
     let copy = c .before .before .before .before .before .before .before .before .before .before .before .open-rows2 .ensures in
     let copied = painted-as (λ (x y : ℕ). getD (a .src .now) (place (a .shape) (at x y)) 0) copy
     (λ x y h l. copied-pixel (a .src .now) (a .shape) x y (pre .ok .frame) (pre .source) h l) in
-    let flat = sym (c .before .before .before .before .before .before .before .before .is-shallow .ensures) ∙ c .before .before .before .before .before .before .before .if2 .taken in
-    opened-shallow (a .shape) (a .d) (pre .ok) (a .src .now) copied (a .length) (pre .some) flat (pre .target) (omega (arith, pre .scratch)) (c .before .before .before .before .open-shallow .ensures)
+    let flat = sym (c .before .before .before .before .before .before .before .before .is-shallow .ensures)
+    ∙ c .before .before .before .before .before .before .before .if2 .taken in
+    opened-shallow (a .shape) (a .d) (pre .ok) (a .src .now) copied (a .length) (pre .some) flat (pre .target) (omega (arith, pre .scratch))
+    (c .before .before .before .before .open-shallow .ensures)
 
 open-steep-requires : tie.Need-open-steep-requires
 open-steep-requires c κs = search needs

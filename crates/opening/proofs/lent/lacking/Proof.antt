@@ -26,7 +26,8 @@ refused-requires-2 c κs = search needs
 returns-2 : tie.Need-returns-2
 returns-2 c =
     let length = sym (c .before .before .before .before .is-outside .ensures) ∙ c .before .before .before .if1 .left in
-    let needed = c .before .before .bytes .ensures ∙ needed-by (c .before .before .before .before .before .args .shape) (c .before .before .before .before .before .pre) in
+    let needed = c .before .before .bytes .ensures ∙ needed-by (c .before .before .before .before .before .args .shape)
+    (c .before .before .before .before .before .pre) in
     let size = lt-ltb _ _ (rw needed at (c .before .if2 .taken)) in
     c .refused2 .ensures ∙ rw needed (simp (length, size))
 
@@ -36,7 +37,8 @@ refused-requires-3 c κs = search needs
 returns-3 : tie.Need-returns-3
 returns-3 c =
     let length = sym (c .before .before .before .before .before .is-outside .ensures) ∙ c .before .before .before .before .if1 .left in
-    let needed = c .before .before .before .bytes .ensures ∙ needed-by (c .before .before .before .before .before .before .args .shape) (c .before .before .before .before .before .before .pre) in
+    let needed = c .before .before .before .bytes .ensures ∙ needed-by (c .before .before .before .before .before .before .args .shape)
+    (c .before .before .before .before .before .before .pre) in
     let size = le-ltb _ _ (rw needed at (c .before .before .if2 .left)) in
     let room = lt-ltb _ _ (rw needed at (c .before .if3 .taken)) in
     c .refused3 .ensures ∙ rw needed (simp (length, size, room))
@@ -47,7 +49,8 @@ refused-requires-4 c κs = search needs
 returns-4 : tie.Need-returns-4
 returns-4 c =
     let length = sym (c .before .before .before .before .before .before .is-outside .ensures) ∙ c .before .before .before .before .before .if1 .left in
-    let needed = c .before .before .before .before .bytes .ensures ∙ needed-by (c .before .before .before .before .before .before .before .args .shape) (c .before .before .before .before .before .before .before .pre) in
+    let needed = c .before .before .before .before .bytes .ensures ∙ needed-by
+    (c .before .before .before .before .before .before .before .args .shape) (c .before .before .before .before .before .before .before .pre) in
     let size = le-ltb _ _ (rw needed at (c .before .before .before .if2 .left)) in
     let room = le-ltb _ _ (rw needed at (c .before .before .if3 .left)) in
     let spare = lt-ltb _ _ (c .before .if4 .taken) in
@@ -59,7 +62,8 @@ done-requires c κs = search needs
 returns-5 : tie.Need-returns-5
 returns-5 c =
     let length = sym (c .before .before .before .before .before .before .is-outside .ensures) ∙ c .before .before .before .before .before .if1 .left in
-    let needed = c .before .before .before .before .bytes .ensures ∙ needed-by (c .before .before .before .before .before .before .before .args .shape) (c .before .before .before .before .before .before .before .pre) in
+    let needed = c .before .before .before .before .bytes .ensures ∙ needed-by
+    (c .before .before .before .before .before .before .before .args .shape) (c .before .before .before .before .before .before .before .pre) in
     let size = le-ltb _ _ (rw needed at (c .before .before .before .if2 .left)) in
     let room = le-ltb _ _ (rw needed at (c .before .before .if3 .left)) in
     let spare = le-ltb _ _ (c .before .if4 .left) in

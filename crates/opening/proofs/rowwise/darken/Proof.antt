@@ -64,7 +64,8 @@ loop-again c =
     let room : from + a .frame .width - from ≤ size (drop from (loop .dst)) = omega (arith, length-drop from (loop .dst), loop .inv .1 .same, fits, pre .1) in
     let part = length-take-le (from + a .frame .width - from) (drop from (loop .dst)) room in (
       omega (arith, taken),
-      rows-put (a .frame .width) (a .frame .stride) (λ (x n : ℕ). 0) (c .before .before .darken-row .last .0) (loop .y) _ (framed (a .frame) (pre .0) .past) (omega (arith, loop .inv .1 .same, fits, pre .1)) (loop .inv .1)
+      rows-put (a .frame .width) (a .frame .stride) (λ (x n : ℕ). 0) (c .before .before .darken-row .last .0) (loop .y) _
+          (framed (a .frame) (pre .0) .past) (omega (arith, loop .inv .1 .same, fits, pre .1)) (loop .inv .1)
           (omega arith) (c .before .before .darken-row .kept .0 ∙ part) (λ x h. c .before .before .darken-row .ensures x),
     )
 

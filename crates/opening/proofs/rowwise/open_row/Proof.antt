@@ -20,11 +20,12 @@ same-length c = search needs
 
 returns : tie.Need-returns
 returns c =
+    let pre = c .before .before .before .before .before .before .before .before .before .before .pre in
     let a = c .before .before .before .before .before .before .before .before .before .before .args in
     let copied = c .before .before .before .before .before .before .copy in
     let lanes = c .before .before .open-lanes in
-    let line = lanes .ensures .lines (omega (arith, copied .kept, c .before .before .before .before .before .before .before .before .before .before .pre)) (c .before .before .before .before .before .before .before .before .before .before .pre .0) in
-    opens-alone line (omega (arith, copied .kept, c .before .before .before .before .before .before .before .before .before .before .pre)) (omega (arith, lanes .kept, copied .kept, c .before .before .before .before .before .before .before .before .before .before .pre))
+    let line = lanes .ensures .lines (omega (arith, copied .kept, pre)) (pre .0) in
+    opens-alone line (omega (arith, copied .kept, pre)) (omega (arith, lanes .kept, copied .kept, pre))
     ∙ ap (λ (l : List ℕ). opened l (a .length)) (copied .ensures)
 
 pub open-row-spec : {M : Type 1} → statement M

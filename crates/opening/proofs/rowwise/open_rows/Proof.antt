@@ -83,7 +83,8 @@ loop-again c =
     let part = length-take-le (from + a .frame .width - from) (drop from (loop .dst)) room in
     let vals = c .before .before .open-row .ensures ∙ ap (λ (l : List ℕ). opened l (a .length)) (c .before .before .before .before .row .ensures) in (
       omega (arith, taken),
-      rows-put (a .frame .width) (a .stride) _ (c .before .before .open-row .last .1 .1 .0) (loop .y) _ (pre .1) (omega (arith, loop .inv .1 .same, fits, pre .4)) (loop .inv .1) (omega arith)
+      rows-put (a .frame .width) (a .stride) _ (c .before .before .open-row .last .1 .1 .0) (loop .y) _ (pre .1)
+          (omega (arith, loop .inv .1 .same, fits, pre .4)) (loop .inv .1) (omega arith)
           (c .before .before .open-row .kept .1 .1 .0 ∙ part) (λ x h. ap (λ (l : List ℕ). getD l x 0) vals),
     )
 

@@ -20,7 +20,8 @@ returns c = record {
 highest-into-requires : tie.Need-highest-into-requires
 highest-into-requires c κs =
     let a = c .before .before .before .before .before .before .before .before .args in
-    highest-ready (a .shape) (a .length) (size (a .src .now)) (size (a .dst .now)) (size (a .scratch .now)) (c .before .before .before .before .refusal .ensures) (c .before .before .if1 .left)
+    highest-ready (a .shape) (a .length) (size (a .src .now)) (size (a .dst .now)) (size (a .scratch .now))
+    (c .before .before .before .before .refusal .ensures) (c .before .before .if1 .left)
 
 same-length : tie.Need-same-length
 same-length c = search needs

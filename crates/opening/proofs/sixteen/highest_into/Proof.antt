@@ -43,7 +43,8 @@ loop-holds c =
       refl,
       painted-as _ along
           (λ x y h l.
-          sym (greatest-one (inDirection (a .src .now) (a .shape) (a .length) x y) ∙ along-opened (a .src .now) (a .shape) _ (pre .ok) refl (pre .source) (a .length) x y (pre .some) h l)),
+          sym (greatest-one (inDirection (a .src .now) (a .shape) (a .length) x y) ∙ along-opened (a .src .now) (a .shape) _ (pre .ok) refl
+          (pre .source) (a .length) x y (pre .some) h l)),
     )
 
 numbered-requires : tie.Need-numbered-requires Inv-loop μ-loop
@@ -65,8 +66,12 @@ loop-again c =
     let put = c .before .before .before .before .put-frame .ensures in
     let rows = c .before .before .before .before .before .before .before .before .before .before .before .before .open-rows in
     let ready =
-    ready-numbered (a .shape) (a .length) _ _ _ (loop .n) (omega (arith, c .before .before .before .before .before .before .before .before .loop-test .taken)) (c .before .before .before .before .before .before .before .numbered .ensures)
-    (loop .inv .3 .same ∙ rows .kept .1 .1 .1 .1 .0) (loop .inv .2) (c .before .before .before .before .before .before .before .before .before .before .before .before .before .before .before .before .before .pre) in
+    ready-numbered (a .shape) (a .length) _ _ _ (loop .n)
+    (omega (arith, c .before .before .before .before .before .before .before .before .loop-test .taken))
+    (c .before .before .before .before .before .before .before .numbered .ensures)
+    (loop .inv .3 .same ∙ rows .kept .1 .1 .1 .1 .0) (loop .inv .2)
+    (c .before .before .before .before .before .before .before .before .before .before .before .before .before .before .before .before .before .pre)
+    in
     let raised = put .fitted (ready-fits (a .shape) _ (a .length) _ _ _ ready) in
     let number = c .before .before .before .before .before .before .before .numbered .ensures in (
       omega arith,
@@ -75,7 +80,8 @@ loop-again c =
       painted-as _ (painted-again (loop .inv .3) raised)
           (λ x y h l.
           let v = inDirection (a .src .now) (a .shape) (a .length) x y in
-          ap (λ (m : ℕ). max m (openedPixel (a .src .now) (a .shape) (c .before .before .before .before .before .before .before .numbered .result) (a .length) x y)) (loop .inv .3 .pixels x y h l)
+          ap (λ (m : ℕ). max m (openedPixel (a .src .now) (a .shape) (c .before .before .before .before .before .before .before .numbered .result)
+          (a .length) x y)) (loop .inv .3 .pixels x y h l)
           ∙ ap (λ (d : Direction). max (greatest (table v (loop .n))) (openedPixel (a .src .now) (a .shape) d (a .length) x y)) number
           ∙ sym (greatest-more v (loop .n))),
     )

@@ -50,7 +50,8 @@ returns c =
     let front = length-front (a .scratch .now) (strip .last .1 .1 .1 .1 .1 .1 .0) (8 * a .count) (strip .kept .1 .1 .1 .1 .1 .1 .0) in
     let long = strip .kept .1 .1 .1 .1 .1 .1 .0 ∙ length-take-le (8 * a .count) (a .scratch .now) (omega (arith, pre .9, pre .6)) in
     lines-claimed (a .src .now) (a .s) (a .major) (a .minor) (a .length) (a .number) (a .u) (a .from) (a .count) (a .behind) (pre .7)
-    (a .scratch .now) (strip .last .1 .1 .1 .1 .1 .1 .0) _ _ _ long (pre .9) (omega (arith, pre .9, pre .6)) (claim .kept .1 .1 .1 .1 .1 .1 .1 .1 .0 ∙ front) (strip .ensures) (claim .ensures)
+    (a .scratch .now) (strip .last .1 .1 .1 .1 .1 .1 .0) _ _ _ long (pre .9) (omega (arith, pre .9, pre .6))
+    (claim .kept .1 .1 .1 .1 .1 .1 .1 .1 .0 ∙ front) (strip .ensures) (claim .ensures)
 
 pub claim-lines-spec : {M : Type 1} → statement M
 claim-lines-spec =

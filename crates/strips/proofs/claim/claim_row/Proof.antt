@@ -39,7 +39,8 @@ returns c =
     record {
       holders = c .before .before .before .before .before .before .before .before .claimed-of .result;
       raised = c .before .before .before .brighter-of .result;
-      held = λ j h. c .before .before .before .before .before .before .before .before .claimed-of .ensures j h ∙ ap₂ (λ (m n : ℕ). claims m (a .number) (getD (a .x) j 0) n) (best .is j h) (held .is j h);
+      held = λ j h. c .before .before .before .before .before .before .before .before .claimed-of .ensures j h ∙ ap₂
+          (λ (m n : ℕ). claims m (a .number) (getD (a .x) j 0) n) (best .is j h) (held .is j h);
       higher = λ j h. c .before .before .before .brighter-of .ensures j h ∙ ap (λ (n : ℕ). max n (getD (a .x) j 0)) (best .is j h);
       holders-put = c .before .before .before .before .before .before .before .put-row .ensures;
       raised-put = c .before .before .put-row2 .ensures;

@@ -51,21 +51,28 @@ mul-claim-row : tie.Need-mul-claim-row Inv-loop μ-loop
 mul-claim-row c =
     let a = c .before .before .before .before .before .before .before .before .args in
     let i = a .from + c .before .before .before .before .loop .k in
-    omega (arith, row-reach (restrided (a .s) (a .major) (a .minor)) i (size (a .scratch .now) - a .behind) (c .before .before .before .before .before .before .before .before .pre .5) (omega arith))
+    omega (
+      arith,
+      row-reach (restrided (a .s) (a .major) (a .minor)) i (size (a .scratch .now) - a .behind)
+          (c .before .before .before .before .before .before .before .before .pre .5) (omega arith),
+    )
 
 mul-claim-row-2 : tie.Need-mul-claim-row-2 Inv-loop μ-loop
 mul-claim-row-2 c =
     let a = c .before .before .before .before .before .before .before .before .before .args in
     let pre = c .before .before .before .before .before .before .before .before .before .pre in
     let i = a .from + c .before .before .before .before .before .loop .k in
-    let most = mul-le-mul {n₁ = i} {m₁ = a .s .major} {n₂ = longest} {m₂ = widest} (omega (arith, c .before .before .before .before .loop-test .taken, pre .6, pre .0 .majors)) (pre .0 .major) in
+    let most = mul-le-mul {n₁ = i} {m₁ = a .s .major} {n₂ = longest} {m₂ = widest}
+    (omega (arith, c .before .before .before .before .loop-test .taken, pre .6, pre .0 .majors)) (pre .0 .major) in
     omega (arith, most)
 
 sub-claim-row : tie.Need-sub-claim-row Inv-loop μ-loop
-sub-claim-row c = omega (arith, c .before .before .before .before .before .before .before .before .before .pre .5, c .before .before .before .before .before .loop .inv .1)
+sub-claim-row c =
+    omega (arith, c .before .before .before .before .before .before .before .before .before .pre .5, c .before .before .before .before .before .loop .inv .1)
 
 part-claim-row-start : tie.Need-part-claim-row-start Inv-loop μ-loop
-part-claim-row-start c = omega (arith, c .before .before .before .before .before .before .before .before .before .pre .5, c .before .before .before .before .before .loop .inv .1)
+part-claim-row-start c =
+    omega (arith, c .before .before .before .before .before .before .before .before .before .pre .5, c .before .before .before .before .before .loop .inv .1)
 
 part-claim-row-end : tie.Need-part-claim-row-end Inv-loop μ-loop
 part-claim-row-end c = search needs
@@ -90,7 +97,9 @@ advance-requires c κs =
     (pre .0 .run, pre .0 .slow, walk .below, omega (arith, top, top-less (a .s) (pre .0)))
 
 add-k : tie.Need-add-k Inv-loop μ-loop
-add-k c = omega (arith, c .before .before .before .before .before .before .before .before .before .before .before .before .loop-test .taken, c .before .before .before .before .before .before .before .before .before .before .before .before .before .before .before .before .before .pre .6, c .before .before .before .before .before .before .before .before .before .before .before .before .before .before .before .before .before .pre .0 .majors)
+add-k c =
+    let pre = c .before .before .before .before .before .before .before .before .before .before .before .before .before .before .before .before .before .pre in
+    omega (arith, c .before .before .before .before .before .before .before .before .before .before .before .before .loop-test .taken, pre .6, pre .0 .majors)
 
 loop-less : tie.Need-loop-less Inv-loop μ-loop
 loop-less c = omega (arith, c .before .before .before .before .before .before .before .before .before .before .before .before .loop-test .taken)
@@ -103,12 +112,15 @@ loop-again c =
     let taken = c .before .before .before .before .before .before .before .before .before .before .before .before .loop-test .taken in
     let walk = loop .inv .3 in
     let i = a .from + loop .k in
-    let shift = c .before .before .before .before .before .before .before .before .before .before .before .shift-at .ensures ∙ stands-shift (a .s) (pre .0) i (omega (arith, taken, pre .6)) walk in
+    let shift = c .before .before .before .before .before .before .before .before .before .before .before .shift-at .ensures ∙ stands-shift (a .s)
+    (pre .0) i (omega (arith, taken, pre .6)) walk in
     let row = c .before .before .before .before .before .claim-row in
     let fits : a .behind ≤ size (loop .scratch) = omega (arith, pre .5, loop .inv .1) in
     let claimed =
-    claimed-more (a .s) (a .major) (a .minor) (a .number) (a .u) (a .from) (a .behind) (pre .1) (pre .2) (loop .k) (omega (arith, taken, pre .6)) (omega (arith, taken, pre .8))
-    (row .last .1 .1 .1 .1 .1 .1 .1 .1 .1 .0) fits shift (c .before .before .before .before .before .before .before .before .before .eight .ensures) (loop .inv .4) (row .ensures) in (
+    claimed-more (a .s) (a .major) (a .minor) (a .number) (a .u) (a .from) (a .behind) (pre .1) (pre .2) (loop .k) (omega (arith, taken, pre .6))
+    (omega (arith, taken, pre .8))
+    (row .last .1 .1 .1 .1 .1 .1 .1 .1 .1 .0) fits shift (c .before .before .before .before .before .before .before .before .before .eight .ensures)
+    (loop .inv .4) (row .ensures) in (
       omega (arith, taken),
       tail-same (a .behind) (loop .scratch) (row .last .1 .1 .1 .1 .1 .1 .1 .1 .1 .0) (row .kept .1 .1 .1 .1 .1 .1 .1 .1 .1 .0) fits ∙ loop .inv .1,
       row .kept .1 .1 .1 .1 .1 .1 .1 .1 .1 .1 .0 ∙ loop .inv .2,

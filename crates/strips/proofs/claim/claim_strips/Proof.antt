@@ -36,7 +36,8 @@ add-lines c = omega (arith, handed-lines (c .before .before .before .before .bef
 loop-holds : tie.Need-loop-holds Inv-loop μ-loop
 loop-holds c =
     let a = c .before .before .before .before .before .before .args in
-    let none = frame-none (a .src .now) (c .before .before .sweep-of .result) (c .before .sweep-of2 .result .major) (c .before .sweep-of2 .result .minor) (a .length) (a .number)
+    let none = frame-none (a .src .now) (c .before .before .sweep-of .result) (c .before .sweep-of2 .result .major)
+    (c .before .sweep-of2 .result .minor) (a .length) (a .number)
     (drop (a .behind) (a .scratch .now)) (a .dst .now) in
     (refl, refl, omega arith, none .0, none .1)
 
@@ -70,7 +71,14 @@ claim-lines-requires c κs =
     )
 
 add-u : tie.Need-add-u Inv-loop μ-loop
-add-u c = omega (arith, c .before .before .before .before .before .before .before .before .loop-test .taken, handed-lines (c .before .before .before .before .before .before .before .before .before .before .before .before .before .before .before .before .pre .0 .ok) (c .before .before .before .before .before .before .before .before .before .before .before .before .sweep-of .ensures))
+add-u c =
+    omega (
+      arith,
+      c .before .before .before .before .before .before .before .before .loop-test .taken,
+      handed-lines
+          (c .before .before .before .before .before .before .before .before .before .before .before .before .before .before .before .before .pre .0 .ok)
+          (c .before .before .before .before .before .before .before .before .before .before .before .before .sweep-of .ensures),
+    )
 
 loop-less : tie.Need-loop-less Inv-loop μ-loop
 loop-less c = omega (arith, c .before .before .before .before .before .before .before .before .loop-test .taken)
@@ -84,7 +92,9 @@ loop-again c =
     let loop = c .before .before .before .before .before .before .before .before .before .loop in
     let claim = c .before .before .before .before .claim-lines in
     let more =
-    frame-more (a .src .now) (c .before .before .before .before .before .before .before .before .before .before .before .before .sweep-of .result) (c .before .before .before .before .before .before .before .before .before .before .before .sweep-of2 .result .major) (c .before .before .before .before .before .before .before .before .before .before .before .sweep-of2 .result .minor) (a .length) (a .number)
+    frame-more (a .src .now) (c .before .before .before .before .before .before .before .before .before .before .before .before .sweep-of .result)
+    (c .before .before .before .before .before .before .before .before .before .before .before .sweep-of2 .result .major)
+    (c .before .before .before .before .before .before .before .before .before .before .before .sweep-of2 .result .minor) (a .length) (a .number)
     (handed-apart ok sweep) (subst Apart (packed-handed ok sweep best) (handed-apart (packed-ok ok) best)) (loop .inv .3) (loop .inv .4) (claim .ensures) in (
       claim .ensures .same ∙ loop .inv .0,
       claim .ensures .holders .same ∙ loop .inv .1,
@@ -107,10 +117,13 @@ returns c =
     let s = c .before .before .before .before .sweep-of .result in
     let b = c .before .before .before .sweep-of2 .result in
     let held =
-    subst (λ (n : ℕ). Holders (a .src .now) s (b .major) (b .minor) (a .length) (a .number) (loop .u) (drop n (a .scratch .now)) (a .dst .now) (loop .dst)) (pre .1) (loop .inv .3) in
+    subst (λ (n : ℕ). Holders (a .src .now) s (b .major) (b .minor) (a .length) (a .number) (loop .u) (drop n (a .scratch .now)) (a .dst .now)
+    (loop .dst)) (pre .1) (loop .inv .3) in
     let raised =
-    subst (λ (n : ℕ). Raised (a .src .now) s (b .major) (b .minor) (a .length) (a .number) (loop .u) (drop n (a .scratch .now)) (drop n (loop .scratch))) (pre .1) (loop .inv .4) in
-    frame-claimed (a .shape) (a .d) (pre .0 .ok) (a .src .now) (a .length) (a .number) (loop .u) (pre .0 .some) (c .before .before .before .before .sweep-of .ensures) (c .before .before .before .sweep-of2 .ensures)
+    subst (λ (n : ℕ). Raised (a .src .now) s (b .major) (b .minor) (a .length) (a .number) (loop .u) (drop n (a .scratch .now))
+    (drop n (loop .scratch))) (pre .1) (loop .inv .4) in
+    frame-claimed (a .shape) (a .d) (pre .0 .ok) (a .src .now) (a .length) (a .number) (loop .u) (pre .0 .some)
+    (c .before .before .before .before .sweep-of .ensures) (c .before .before .before .sweep-of2 .ensures)
     (c .loop-test .left) (loop .inv .0) held raised
 
 pub claim-strips-spec : {M : Type 1} → statement M

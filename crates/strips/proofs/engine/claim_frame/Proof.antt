@@ -18,7 +18,8 @@ is-fitting-requires c κs = search needs
 returns : tie.Need-returns
 returns c =
     let a = c .before .before .before .before .before .args in
-    let unfit = unfit-claim (a .shape) (a .d) (a .length) (size (a .src .now)) (size (a .dst .now)) (size (a .scratch .now)) (sym (c .before .is-fitting .ensures) ∙ not-true _ (c .if1 .taken)) in
+    let unfit = unfit-claim (a .shape) (a .d) (a .length) (size (a .src .now)) (size (a .dst .now)) (size (a .scratch .now))
+    (sym (c .before .is-fitting .ensures) ∙ not-true _ (c .if1 .taken)) in
     record { same = refl; fitted = λ e. absurd (true≢false (sym e ∙ unfit)); unfit = λ e. (refl, refl) }
 
 strip-bytes-requires : tie.Need-strip-bytes-requires
@@ -27,14 +28,16 @@ strip-bytes-requires c κs = search needs
 sub-if2 : tie.Need-sub-if2
 sub-if2 c =
     let a = c .before .before .before .before .before .before .args in
-    let ready = fits-ready (a .shape) (a .d) (a .length) (size (a .src .now)) (size (a .dst .now)) (size (a .scratch .now)) (sym (c .before .before .is-fitting .ensures) ∙ not-false _ (c .before .if1 .left)) in
+    let ready = fits-ready (a .shape) (a .d) (a .length) (size (a .src .now)) (size (a .dst .now)) (size (a .scratch .now))
+    (sym (c .before .before .is-fitting .ensures) ∙ not-false _ (c .before .if1 .left)) in
     let bytes = c .strip-bytes .ensures ∙ bytes-by (a .shape) (ready .ok .frame) in
     omega (arith, bytes, ready .scratch)
 
 mul-if2 : tie.Need-mul-if2
 mul-if2 c =
     let a = c .before .before .before .before .before .before .before .args in
-    let ready = fits-ready (a .shape) (a .d) (a .length) (size (a .src .now)) (size (a .dst .now)) (size (a .scratch .now)) (sym (c .before .before .before .is-fitting .ensures) ∙ not-false _ (c .before .before .if1 .left)) in
+    let ready = fits-ready (a .shape) (a .d) (a .length) (size (a .src .now)) (size (a .dst .now)) (size (a .scratch .now))
+    (sym (c .before .before .before .is-fitting .ensures) ∙ not-false _ (c .before .before .if1 .left)) in
     omega (arith, area-small (framed (a .shape) (ready .ok .frame)))
 
 returns-2 : tie.Need-returns-2
@@ -50,7 +53,9 @@ returns-2 c =
 claim-strips-requires : tie.Need-claim-strips-requires
 claim-strips-requires c κs =
     let a = c .before .before .before .before .before .before .before .before .before .before .args in
-    let ready = fits-ready (a .shape) (a .d) (a .length) (size (a .src .now)) (size (a .dst .now)) (size (a .scratch .now)) (sym (c .before .before .before .before .before .before .is-fitting .ensures) ∙ not-false _ (c .before .before .before .before .before .if1 .left)) in
+    let ready = fits-ready (a .shape) (a .d) (a .length) (size (a .src .now)) (size (a .dst .now)) (size (a .scratch .now))
+    (sym (c .before .before .before .before .before .before .is-fitting .ensures) ∙ not-false _
+    (c .before .before .before .before .before .if1 .left)) in
     let bytes = c .before .before .before .before .strip-bytes .ensures ∙ bytes-by (a .shape) (ready .ok .frame) in
     (ready, bytes, omega (arith, c .before .before .if2 .left, bytes, ready .scratch))
 
@@ -63,10 +68,12 @@ same-length-2 c = search needs
 returns-3 : tie.Need-returns-3
 returns-3 c =
     let a = c .before .before .before .before .before .before .before .before .before .before .before .before .before .before .before .args in
-    let fitting = sym (c .before .before .before .before .before .before .before .before .before .before .before .is-fitting .ensures) ∙ not-false _ (c .before .before .before .before .before .before .before .before .before .before .if1 .left) in
+    let fitting = sym (c .before .before .before .before .before .before .before .before .before .before .before .is-fitting .ensures) ∙ not-false _
+    (c .before .before .before .before .before .before .before .before .before .before .if1 .left) in
     let ready = fits-ready (a .shape) (a .d) (a .length) (size (a .src .now)) (size (a .dst .now)) (size (a .scratch .now)) fitting in
     let bytes = c .before .before .before .before .before .before .before .before .before .strip-bytes .ensures ∙ bytes-by (a .shape) (ready .ok .frame) in
-    let room : stripBytes (a .shape) + a .shape .width * a .shape .height ≤ size (a .scratch .now) = omega (arith, c .before .before .before .before .before .before .before .if2 .left, bytes, ready .scratch) in
+    let room : stripBytes (a .shape) + a .shape .width * a .shape .height ≤ size (a .scratch .now) = omega
+    (arith, c .before .before .before .before .before .before .before .if2 .left, bytes, ready .scratch) in
     let fits = claim-fits (a .shape) (a .d) (a .length) (size (a .src .now)) (size (a .dst .now)) (size (a .scratch .now)) fitting room in
     let claim = c .before .before .before .before .claim-strips .ensures in
     record { same = claim .same; fitted = λ e. claim; unfit = λ e. absurd (true≢false (sym fits ∙ e)) }

@@ -46,10 +46,12 @@ returns-4 c =
 
 returns-5 : tie.Need-returns-5
 returns-5 c =
-    let frame = sym (c .before .before .before .before .before .before .before .is-frame .ensures) ∙ not-false _ (c .before .before .before .before .before .before .if1 .left) in
+    let args = c .before .before .before .before .before .before .before .before .args in
+    let frame = sym (c .before .before .before .before .before .before .before .is-frame .ensures) ∙ not-false _
+    (c .before .before .before .before .before .before .if1 .left) in
     let direction = sym (c .before .before .before .before .before .is-direction .ensures) ∙ not-false _ (c .before .before .before .before .if2 .left) in
-    let some = lt-ltb 0 (c .before .before .before .before .before .before .before .before .args .length) (omega arith) in
-    let needed = c .before .before .bytes .ensures ∙ needed-by (c .before .before .before .before .before .before .before .before .args .shape) frame in
+    let some = lt-ltb 0 (args .length) (omega arith) in
+    let needed = c .before .before .bytes .ensures ∙ needed-by (args .shape) frame in
     let source = le-leb _ _ (rw needed at (c .before .if4 .left)) in
     let target = lt-leb _ _ (rw needed at (c .if5 .taken)) in
     simp (frame, direction, some, source, target)
@@ -59,13 +61,15 @@ strip-bytes-requires c κs = search needs
 
 returns-6 : tie.Need-returns-6
 returns-6 c =
-    let frame = sym (c .before .before .before .before .before .before .before .before .is-frame .ensures) ∙ not-false _ (c .before .before .before .before .before .before .before .if1 .left) in
+    let args = c .before .before .before .before .before .before .before .before .before .args in
+    let frame = sym (c .before .before .before .before .before .before .before .before .is-frame .ensures) ∙ not-false _
+    (c .before .before .before .before .before .before .before .if1 .left) in
     let direction = sym (c .before .before .before .before .before .before .is-direction .ensures) ∙ not-false _ (c .before .before .before .before .before .if2 .left) in
-    let some = lt-ltb 0 (c .before .before .before .before .before .before .before .before .before .args .length) (omega arith) in
-    let needed = c .before .before .before .bytes .ensures ∙ needed-by (c .before .before .before .before .before .before .before .before .before .args .shape) frame in
+    let some = lt-ltb 0 (args .length) (omega arith) in
+    let needed = c .before .before .before .bytes .ensures ∙ needed-by (args .shape) frame in
     let source = le-leb _ _ (rw needed at (c .before .before .if4 .left)) in
     let target = le-leb _ _ (rw needed at (c .before .if5 .left)) in
-    let bytes = c .strip-bytes .ensures ∙ bytes-by (c .before .before .before .before .before .before .before .before .before .args .shape) frame in
+    let bytes = c .strip-bytes .ensures ∙ bytes-by (args .shape) frame in
     rw bytes (simp (frame, direction, some, source, target))
 
 pub is-fitting-spec : {M : Type 1} → statement M

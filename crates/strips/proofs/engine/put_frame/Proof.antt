@@ -19,7 +19,8 @@ returns c =
 put-strips-requires : tie.Need-put-strips-requires
 put-strips-requires c κs =
     let a = c .before .before .before .before .before .before .before .args in
-    fits-ready (a .shape) (a .d) (a .length) (size (a .src .now)) (size (a .dst .now)) (size (a .scratch .now)) (sym (c .before .before .before .is-fitting .ensures) ∙ not-false _ (c .before .before .if1 .left))
+    fits-ready (a .shape) (a .d) (a .length) (size (a .src .now)) (size (a .dst .now)) (size (a .scratch .now))
+    (sym (c .before .before .before .is-fitting .ensures) ∙ not-false _ (c .before .before .if1 .left))
 
 same-length : tie.Need-same-length
 same-length c = search needs
@@ -29,7 +30,8 @@ same-length-2 c = search needs
 
 returns-2 : tie.Need-returns-2
 returns-2 c =
-    let fitting = sym (c .before .before .before .before .before .before .before .before .is-fitting .ensures) ∙ not-false _ (c .before .before .before .before .before .before .before .if1 .left) in
+    let fitting = sym (c .before .before .before .before .before .before .before .before .is-fitting .ensures) ∙ not-false _
+    (c .before .before .before .before .before .before .before .if1 .left) in
     let put = c .before .before .before .before .put-strips in
     record { same = put .kept .1 .1 .1 .1 .1 .1 .0; fitted = λ e. put .ensures; unfit = λ e. absurd (true≢false (sym fitting ∙ e)) }
 

@@ -52,12 +52,14 @@ returns-3 c =
     let a = c .before .before .before .before .before .before .before .before .args in
     let low = c .before .before .before .before .before .before .if1 .left in
     let high = c .before .before .before .before .before .if2 .left in
-    row-put-eight (a .minors) (a .minor) (a .base) (a .t) (a .u) low (omega (arith, high)) _ _ (a .x) 1 (sym (c .before .before .before .before .if3 .taken)) (c .before .before .put-eight .ensures)
+    row-put-eight (a .minors) (a .minor) (a .base) (a .t) (a .u) low (omega (arith, high)) _ _ (a .x) 1
+    (sym (c .before .before .before .before .if3 .taken)) (c .before .before .put-eight .ensures)
 
 put-eight-by-requires : tie.Need-put-eight-by-requires
 put-eight-by-requires c κs =
+    let pre = c .before .before .before .before .before .pre in
     let a = c .before .before .before .before .before .args in
-    (c .before .before .before .before .before .pre .0, byte-last (a .minors) (a .minor) (a .base) (a .t) (a .u) (omega arith) (omega arith) _ (c .before .before .before .before .before .pre .1))
+    (pre .0, byte-last (a .minors) (a .minor) (a .base) (a .t) (a .u) (omega arith) (omega arith) _ (pre .1))
 
 same-length-4 : tie.Need-same-length-4
 same-length-4 c = search needs

@@ -35,8 +35,12 @@ loop-less c = search needs
 
 loop-again : tie.Need-loop-again Inv-loop μ-loop
 loop-again c =
-    let put = c .before .before .before .before .before .loop .inv .2 in
-    (omega (arith, c .before .before .before .before .loop-test .taken), c .before .before .before .before .before .loop .inv .1, row-put-more (c .before .before .before .before .before .before .before .pre .0) put (c .before .before .put-pixel .ensures) refl)
+    let put = c .before .before .before .before .before .loop .inv .2 in (
+      omega (arith, c .before .before .before .before .loop-test .taken),
+      c .before .before .before .before .before .loop .inv .1,
+      row-put-more
+          (c .before .before .before .before .before .before .before .pre .0) put (c .before .before .put-pixel .ensures) refl,
+    )
 
 same-length : tie.Need-same-length Inv-loop μ-loop
 same-length c = c .before .loop .inv .2 .same

@@ -39,9 +39,10 @@ mul-row-of c =
 
 row-of-requires : tie.Need-row-of-requires Inv-loop μ-loop
 row-of-requires c κs =
+    let pre = c .before .before .before .before .before .before .before .pre in
     let a = c .before .before .before .before .before .before .before .args in
     let k = c .before .before .before .loop .k in
-    (row-reach (a .s) (a .from + k) (length (a .src .now)) (c .before .before .before .before .before .before .before .pre .1) (omega arith), c .before .before .before .before .before .before .before .pre .3)
+    (row-reach (a .s) (a .from + k) (length (a .src .now)) (pre .1) (omega arith), pre .3)
 
 mul-put-eight : tie.Need-mul-put-eight Inv-loop μ-loop
 mul-put-eight c = search needs
@@ -54,7 +55,8 @@ advance-requires c κs =
     let a = c .before .before .before .before .before .before .before .before .before .before .before .before .args in
     let pre = c .before .before .before .before .before .before .before .before .before .before .before .before .pre in
     let walk = c .before .before .before .before .before .before .before .before .loop .inv .2 in
-    let top = stands-top (a .s) (pre .0) (a .from + c .before .before .before .before .before .before .before .before .loop .k) (omega (arith, c .before .before .before .before .before .before .before .loop-test .taken, pre)) walk in
+    let top = stands-top (a .s) (pre .0) (a .from + c .before .before .before .before .before .before .before .before .loop .k)
+    (omega (arith, c .before .before .before .before .before .before .before .loop-test .taken, pre)) walk in
     (pre .0 .run, pre .0 .slow, walk .below, omega (arith, top, top-less (a .s) (pre .0)))
 
 add-k : tie.Need-add-k Inv-loop μ-loop
@@ -70,7 +72,8 @@ loop-again c =
     let loop = c .before .before .before .before .before .before .before .before .before .loop in
     let taken = c .before .before .before .before .before .before .before .before .loop-test .taken in
     let walk = loop .inv .2 in
-    let shift = c .before .before .before .before .before .before .before .shift-at .ensures ∙ stands-shift (a .s) (pre .0) (a .from + loop .k) (omega (arith, taken, pre)) walk in (
+    let shift = c .before .before .before .before .before .before .before .shift-at .ensures ∙ stands-shift (a .s) (pre .0) (a .from + loop .k)
+    (omega (arith, taken, pre)) walk in (
       omega (arith, taken),
       c .before .before .before .put-eight .kept .0 ∙ loop .inv .1,
       walk-next (a .from) (loop .k) (c .advance .ensures) walk,

@@ -61,7 +61,8 @@ put-row-requires c κs =
     let a = c .before .before .before .before .before .before .before .before .before .before .before .args in
     let pre = c .before .before .before .before .before .before .before .before .before .before .before .pre in
     let loop = c .before .before .before .before .before .before .before .loop in
-    let reach = row-reach (a .s) (a .from + loop .k) (length (a .dst .now)) (pre .2) (omega (arith, c .before .before .before .before .before .before .loop-test .taken, pre)) in
+    let reach = row-reach (a .s) (a .from + loop .k) (length (a .dst .now)) (pre .2)
+    (omega (arith, c .before .before .before .before .before .before .loop-test .taken, pre)) in
     (pre .0 .step, omega (arith, reach, loop .inv .2 .same), pre .4)
 
 advance-requires : tie.Need-advance-requires Inv-loop μ-loop
@@ -69,11 +70,14 @@ advance-requires c κs =
     let a = c .before .before .before .before .before .before .before .before .before .before .before .before .before .before .args in
     let pre = c .before .before .before .before .before .before .before .before .before .before .before .before .before .before .pre in
     let walk = c .before .before .before .before .before .before .before .before .before .before .loop .inv .1 in
-    let top = stands-top (a .s) (pre .0) (a .from + c .before .before .before .before .before .before .before .before .before .before .loop .k) (omega (arith, c .before .before .before .before .before .before .before .before .before .loop-test .taken, pre)) walk in
+    let top = stands-top (a .s) (pre .0) (a .from + c .before .before .before .before .before .before .before .before .before .before .loop .k)
+    (omega (arith, c .before .before .before .before .before .before .before .before .before .loop-test .taken, pre)) walk in
     (pre .0 .run, pre .0 .slow, walk .below, omega (arith, top, top-less (a .s) (pre .0)))
 
 add-k : tie.Need-add-k Inv-loop μ-loop
-add-k c = omega (arith, c .before .before .before .before .before .before .before .before .before .before .loop-test .taken, c .before .before .before .before .before .before .before .before .before .before .before .before .before .before .before .pre .3, c .before .before .before .before .before .before .before .before .before .before .before .before .before .before .before .pre .0 .majors)
+add-k c =
+    let pre = c .before .before .before .before .before .before .before .before .before .before .before .before .before .before .before .pre in
+    omega (arith, c .before .before .before .before .before .before .before .before .before .before .loop-test .taken, pre .3, pre .0 .majors)
 
 loop-less : tie.Need-loop-less Inv-loop μ-loop
 loop-less c = omega (arith, c .before .before .before .before .before .before .before .before .before .before .loop-test .taken)
@@ -85,9 +89,11 @@ loop-again c =
     let loop = c .before .before .before .before .before .before .before .before .before .before .before .loop in
     let taken = c .before .before .before .before .before .before .before .before .before .before .loop-test .taken in
     let walk = loop .inv .1 in
-    let shift = c .before .before .before .before .before .before .before .before .before .shift-at .ensures ∙ stands-shift (a .s) (pre .0) (a .from + loop .k) (omega (arith, taken, pre)) walk in
+    let shift = c .before .before .before .before .before .before .before .before .before .shift-at .ensures ∙ stands-shift (a .s) (pre .0)
+    (a .from + loop .k) (omega (arith, taken, pre)) walk in
     let row =
-    placed-row (a .s) (a .u) (a .from + loop .k) _ _ _ _ (λ (v i old : ℕ). mixed (a .raise) old (bufferAt (a .buf .now) (a .u) (a .from) v i)) shift (omega (arith, taken, pre))
+    placed-row (a .s) (a .u) (a .from + loop .k) _ _ _ _ (λ (v i old : ℕ). mixed (a .raise) old (bufferAt (a .buf .now) (a .u) (a .from) v i)) shift
+    (omega (arith, taken, pre))
     (c .before .before .before .put-row .ensures)
     (λ j h z.
     c .before .before .before .before .before .mixed-with .ensures j h

@@ -21,7 +21,9 @@ same-length-2 c = search needs
 returns : tie.Need-returns
 returns c =
     let a = c .before .before .before .before .before .before .before .before .before .before .before .before .args in
-    placed-strip (a .s) (a .src .now) (a .length) (a .u) (a .from) (a .count) (c .before .before .before .before .before .before .before .before .before .before .before .before .pre .4) (λ (v i old new : ℕ). mixed (a .raise) old new) (λ v i h z. (h, z))
+    placed-strip (a .s) (a .src .now) (a .length) (a .u) (a .from) (a .count)
+    (c .before .before .before .before .before .before .before .before .before .before .before .before .pre .4)
+    (λ (v i old new : ℕ). mixed (a .raise) old new) (λ v i h z. (h, z))
     (c .before .before .before .before .before .before .before .open-strip .ensures) (c .before .before .put-strip .ensures)
 
 pub put-lines-spec : {M : Type 1} → statement M

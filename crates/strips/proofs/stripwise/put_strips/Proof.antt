@@ -40,19 +40,32 @@ mul-room : tie.Need-mul-room Inv-loop μ-loop
 mul-room c =
     let pre = c .before .before .before .before .before .before .before .before .pre in
     let sweep = c .before .before .before .before .sweep-of .ensures in
-    omega (arith, handed-room (pre .ok) sweep (c .before .before .loop .u) (c .before .loop-test .taken) (c .span-of .ensures), pre .scratch, c .before .before .loop .inv .0)
+    omega (
+      arith,
+      handed-room (pre .ok) sweep (c .before .before .loop .u) (c .before .loop-test .taken)
+          (c .span-of .ensures),
+      pre .scratch,
+      c .before .before .loop .inv .0,
+    )
 
 slice-relend-prefix-put-lines : tie.Need-slice-relend-prefix-put-lines Inv-loop μ-loop
 slice-relend-prefix-put-lines c =
     let pre = c .before .before .before .before .before .before .before .before .before .pre in
     let sweep = c .before .before .before .before .before .sweep-of .ensures in
-    omega (arith, handed-room (pre .ok) sweep (c .before .before .before .loop .u) (c .before .before .loop-test .taken) (c .before .span-of .ensures), pre .scratch, c .before .before .before .loop .inv .0)
+    omega (
+      arith,
+      handed-room (pre .ok) sweep (c .before .before .before .loop .u) (c .before .before .loop-test .taken)
+          (c .before .span-of .ensures),
+      pre .scratch,
+      c .before .before .before .loop .inv .0,
+    )
 
 slice-aggregate-put-lines : tie.Need-slice-aggregate-put-lines Inv-loop μ-loop
 slice-aggregate-put-lines c =
     let pre = c .before .before .before .before .before .before .before .before .before .before .pre in
     let sweep = c .before .before .before .before .before .before .sweep-of .ensures in
-    let room = handed-room (pre .ok) sweep (c .before .before .before .before .loop .u) (c .before .before .before .loop-test .taken) (c .before .before .span-of .ensures) in
+    let room = handed-room (pre .ok) sweep (c .before .before .before .before .loop .u) (c .before .before .before .loop-test .taken)
+    (c .before .before .span-of .ensures) in
     sym (length-take-le _ _ (omega (arith, room, pre .scratch, c .before .before .before .before .loop .inv .0)))
 
 put-lines-requires : tie.Need-put-lines-requires Inv-loop μ-loop
@@ -74,7 +87,14 @@ put-lines-requires c κs =
     )
 
 add-u : tie.Need-add-u Inv-loop μ-loop
-add-u c = omega (arith, c .before .before .before .before .before .before .before .before .loop-test .taken, handed-lines (c .before .before .before .before .before .before .before .before .before .before .before .before .before .before .before .pre .ok) (c .before .before .before .before .before .before .before .before .before .before .before .sweep-of .ensures))
+add-u c =
+    omega (
+      arith,
+      c .before .before .before .before .before .before .before .before .loop-test .taken,
+      handed-lines
+          (c .before .before .before .before .before .before .before .before .before .before .before .before .before .before .before .pre .ok)
+          (c .before .before .before .before .before .before .before .before .before .before .before .sweep-of .ensures),
+    )
 
 loop-less : tie.Need-loop-less Inv-loop μ-loop
 loop-less c = omega (arith, c .before .before .before .before .before .before .before .before .loop-test .taken)
@@ -85,7 +105,8 @@ loop-again c =
     let sweep = c .before .before .before .before .before .before .before .before .before .before .before .sweep-of .ensures in
     let loop = c .before .before .before .before .before .before .before .before .before .loop in
     let put = c .before .before .before .before .put-lines in (
-      length-front (loop .scratch) (put .last .1 .1 .1 .1 .1 .1 .1 .1 .0) (8 * c .before .before .before .before .before .before .before .span-of .result .count) (put .kept .1 .1 .1 .1 .1 .1 .1 .1 .0) ∙ loop .inv .0,
+      length-front (loop .scratch) (put .last .1 .1 .1 .1 .1 .1 .1 .1 .0)
+          (8 * c .before .before .before .before .before .before .before .span-of .result .count) (put .kept .1 .1 .1 .1 .1 .1 .1 .1 .0) ∙ loop .inv .0,
       omega (arith, c .before .before .before .before .before .before .before .before .loop-test .taken),
       lines-more (handed-apart (pre .ok) sweep) (loop .inv .2) (put .ensures),
     )
@@ -98,14 +119,16 @@ same-length-2 c = c .before .loop .inv .0
 
 returns : tie.Need-returns Inv-loop μ-loop
 returns c =
+    let pre = c .before .before .before .before .before .before .before .pre in
     let a = c .before .before .before .before .before .before .before .args in
-    let ok = c .before .before .before .before .before .before .before .pre .ok in
+    let ok = pre .ok in
     let theirs = sweep-is ok (c .before .before .before .sweep-of .ensures) in
     let loop = c .before .loop in
     let all =
-    subst (λ (z : Sweep). Placed z (below (loop .u)) (λ (v i old : ℕ). mixed (a .raise) old (openedOn z (a .src .now) (a .length) v i)) (a .dst .now) (loop .dst)) theirs (loop .inv .2) in
+    subst (λ (z : Sweep). Placed z (below (loop .u)) (λ (v i old : ℕ). mixed (a .raise) old (openedOn z (a .src .now) (a .length) v i)) (a .dst .now)
+    (loop .dst)) theirs (loop .inv .2) in
     painted-lines (a .shape) (a .d) ok (loop .u) _ all (omega (arith, c .loop-test .left, ap (λ (z : Sweep). lines z) theirs))
-    (λ x y h l p. ap (mixed (a .raise) _) (sym (opened-spot (a .shape) (a .d) ok (a .src .now) (a .length) (c .before .before .before .before .before .before .before .pre .some) p)))
+    (λ x y h l p. ap (mixed (a .raise) _) (sym (opened-spot (a .shape) (a .d) ok (a .src .now) (a .length) (pre .some) p)))
 
 pub put-strips-spec : {M : Type 1} → statement M
 put-strips-spec =

@@ -60,8 +60,9 @@ mul-copy-pixels c =
 
 copy-pixels-requires : tie.Need-copy-pixels-requires
 copy-pixels-requires c κs =
-    let text = c .before .before .before .before .before .before .before .before .before .before .before .before .args .text .now in
-    let room = length (c .before .before .before .before .before .before .before .before .before .before .before .before .args .pixels .now) in
+    let args = c .before .before .before .before .before .before .before .before .before .before .before .before .args in
+    let text = args .text .now in
+    let room = length (args .pixels .now) in
     let a = c .before .before .before .before .before .before .before .before .tested .result in
     let tests = c .before .before .before .before .before .before .before .before .tested .ensures in
     let done = c .before .before .before .before .before .if1 .left in
@@ -69,8 +70,12 @@ copy-pixels-requires c κs =
     let width = c .before .before .before .wide2 .ensures .0 ∙ value 1 (omega arith) in
     let height = c .before .before .wide3 .ensures .0 ∙ value 2 (omega arith) in
     let pixels = ap₂ (λ (w h : ℕ). w * h) width height in
-    let below = input-below text room _ _ a tests done (search needs) in
-    (omega (arith, pixels, input-room text room _ _ a tests done (search needs)), omega (arith, pixels, input-fits text room _ _ a tests done (search needs) .2), λ k h. below k (omega (arith, pixels)))
+    let below = input-below text room _ _ a tests done (search needs) in (
+      omega (arith, pixels, input-room text room _ _ a tests done (search needs)),
+      omega
+          (arith, pixels, input-fits text room _ _ a tests done (search needs) .2),
+      λ k h. below k (omega (arith, pixels)),
+    )
 
 same-length : tie.Need-same-length
 same-length c = search needs

@@ -63,14 +63,16 @@ same-length-2 c = search needs
 
 returns-3 : tie.Need-returns-3
 returns-3 c =
-    let text = c .before .before .before .before .before .before .before .before .before .before .before .before .before .before .args .text .now in
-    let room = c .before .before .before .before .before .before .before .before .before .before .before .before .before .before .args .room in
-    let values = c .before .before .before .before .before .before .before .before .before .before .before .before .before .before .args .values .now in
+    let args = c .before .before .before .before .before .before .before .before .before .before .before .before .before .before .args in
+    let text = args .text .now in
+    let room = args .room in
+    let values = args .values .now in
     let size = c .before .before .before .before .before .before .before .before .before .before .before .if1 .left in
     let head = c .before .before .before .before .before .before .before .before .before .read-head in
     let found = not-false _ (c .before .before .before .before .before .if2 .left) in
     let there = sym (head .ensures .found) ∙ found in
-    let value = head-values text values _ (head .result) (head .ensures) found (omega (arith, c .before .before .before .before .before .before .before .before .before .before .before .before .before .before .pre)) in
+    let value = head-values text values _ (head .result) (head .ensures) found
+    (omega (arith, c .before .before .before .before .before .before .before .before .before .before .before .before .before .before .pre)) in
     let width = c .before .before .before .wide .ensures .0 ∙ value 1 (omega arith) in
     let out = ap (outside 1 longest) (sym width) ∙ sym (c .before .before .is-outside .ensures) ∙ c .before .if3 .taken in
     tests-refused text room values _ _ 0 0 (c .refused3 .ensures) (refused-width text room size there out)
@@ -92,16 +94,19 @@ same-length-3 c = search needs
 
 returns-4 : tie.Need-returns-4
 returns-4 c =
-    let text = c .before .before .before .before .before .before .before .before .before .before .before .before .before .before .before .before .before .before .args .text .now in
-    let room = c .before .before .before .before .before .before .before .before .before .before .before .before .before .before .before .before .before .before .args .room in
-    let values = c .before .before .before .before .before .before .before .before .before .before .before .before .before .before .before .before .before .before .args .values .now in
+    let args = c .before .before .before .before .before .before .before .before .before .before .before .before .before .before .before .before .before .before .args in
+    let text = args .text .now in
+    let room = args .room in
+    let values = args .values .now in
     let size = c .before .before .before .before .before .before .before .before .before .before .before .before .before .before .before .if1 .left in
     let head = c .before .before .before .before .before .before .before .before .before .before .before .before .before .read-head in
     let found = not-false _ (c .before .before .before .before .before .before .before .before .before .if2 .left) in
     let there = sym (head .ensures .found) ∙ found in
-    let value = head-values text values _ (head .result) (head .ensures) found (omega (arith, c .before .before .before .before .before .before .before .before .before .before .before .before .before .before .before .before .before .before .pre)) in
+    let value = head-values text values _ (head .result) (head .ensures) found
+    (omega (arith, c .before .before .before .before .before .before .before .before .before .before .before .before .before .before .before .before .before .before .pre)) in
     let width = c .before .before .before .before .before .before .before .wide .ensures .0 ∙ value 1 (omega arith) in
-    let wide = ap (outside 1 longest) (sym width) ∙ sym (c .before .before .before .before .before .before .is-outside .ensures) ∙ c .before .before .before .before .before .if3 .left in
+    let wide = ap (outside 1 longest) (sym width) ∙ sym (c .before .before .before .before .before .before .is-outside .ensures)
+    ∙ c .before .before .before .before .before .if3 .left in
     let height = c .before .before .before .wide2 .ensures .0 ∙ value 2 (omega arith) in
     let out = ap (outside 1 longest) (sym height) ∙ sym (c .before .before .is-outside2 .ensures) ∙ c .before .if4 .taken in
     tests-refused text room values _ _ 0 0 (c .refused4 .ensures) (refused-height text room size there wide out)
@@ -117,16 +122,19 @@ same-length-4 c = search needs
 
 returns-5 : tie.Need-returns-5
 returns-5 c =
-    let text = c .before .before .before .before .before .before .before .before .before .before .before .before .before .before .before .before .before .before .before .before .args .text .now in
-    let room = c .before .before .before .before .before .before .before .before .before .before .before .before .before .before .before .before .before .before .before .before .args .room in
-    let values = c .before .before .before .before .before .before .before .before .before .before .before .before .before .before .before .before .before .before .before .before .args .values .now in
+    let args = c .before .before .before .before .before .before .before .before .before .before .before .before .before .before .before .before .before .before .before .before .args in
+    let text = args .text .now in
+    let room = args .room in
+    let values = args .values .now in
     let size = c .before .before .before .before .before .before .before .before .before .before .before .before .before .before .before .before .before .if1 .left in
     let head = c .before .before .before .before .before .before .before .before .before .before .before .before .before .before .before .read-head in
     let found = not-false _ (c .before .before .before .before .before .before .before .before .before .before .before .if2 .left) in
     let there = sym (head .ensures .found) ∙ found in
-    let value = head-values text values _ (head .result) (head .ensures) found (omega (arith, c .before .before .before .before .before .before .before .before .before .before .before .before .before .before .before .before .before .before .before .before .pre)) in
+    let value = head-values text values _ (head .result) (head .ensures) found
+    (omega (arith, c .before .before .before .before .before .before .before .before .before .before .before .before .before .before .before .before .before .before .before .before .pre)) in
     let width = c .before .before .before .before .before .before .before .before .before .wide .ensures .0 ∙ value 1 (omega arith) in
-    let wide = ap (outside 1 longest) (sym width) ∙ sym (c .before .before .before .before .before .before .before .before .is-outside .ensures) ∙ c .before .before .before .before .before .before .before .if3 .left in
+    let wide = ap (outside 1 longest) (sym width) ∙ sym (c .before .before .before .before .before .before .before .before .is-outside .ensures)
+    ∙ c .before .before .before .before .before .before .before .if3 .left in
     let height = c .before .before .before .before .before .wide2 .ensures .0 ∙ value 2 (omega arith) in
     let high = ap (outside 1 longest) (sym height) ∙ sym (c .before .before .before .before .is-outside2 .ensures) ∙ c .before .before .before .if4 .left in
     let above = rw (value 0 (omega arith)) at (c .before .if5 .taken) in
@@ -134,12 +142,18 @@ returns-5 c =
 
 read-rows-requires : tie.Need-read-rows-requires
 read-rows-requires c κs =
-    let text = c .before .before .before .before .before .before .before .before .before .before .before .before .before .before .before .before .before .before .before .before .args .text .now in
+    let args = c .before .before .before .before .before .before .before .before .before .before .before .before .before .before .before .before .before .before .before .before .args in
+    let text = args .text .now in
     let head = c .before .before .before .before .before .before .before .before .before .before .before .before .before .before .before .read-head in
     let found = not-false _ (c .before .before .before .before .before .before .before .before .before .before .before .if2 .left) in
     let three = head-many text (sym (head .ensures .found) ∙ found) in
-    let same = ap length (head .ensures .stored found) ∙ length-sets (c .before .before .before .before .before .before .before .before .before .before .before .before .before .before .before .before .before .before .before .before .args .values .now) 0 (headOf text .values) in
-    record { inside = head .ensures .inside found; fewer = omega (arith, head .ensures .far found); large = omega (arith, same, c .before .before .before .before .before .before .before .before .before .before .before .before .before .before .before .before .before .before .before .before .pre, c .before .before .before .before .before .before .before .before .before .before .before .before .before .before .before .before .before .if1 .left) }
+    let same = ap length (head .ensures .stored found) ∙ length-sets (args .values .now) 0 (headOf text .values) in
+    record {
+      inside = head .ensures .inside found;
+      fewer = omega (arith, head .ensures .far found);
+      large = omega
+          (arith, same, c .before .before .before .before .before .before .before .before .before .before .before .before .before .before .before .before .before .before .before .before .pre, c .before .before .before .before .before .before .before .before .before .before .before .before .before .before .before .before .before .if1 .left);
+    }
 
 refused-requires-6 : tie.Need-refused-requires-6
 refused-requires-6 c κs = search needs
@@ -149,21 +163,29 @@ same-length-5 c = search needs
 
 returns-6 : tie.Need-returns-6
 returns-6 c =
-    let text = c .before .before .before .before .before .before .before .before .before .before .before .before .before .before .before .before .before .before .before .before .before .before .before .before .before .before .args .text .now in
-    let room = c .before .before .before .before .before .before .before .before .before .before .before .before .before .before .before .before .before .before .before .before .before .before .before .before .before .before .args .room in
-    let values = c .before .before .before .before .before .before .before .before .before .before .before .before .before .before .before .before .before .before .before .before .before .before .before .before .before .before .args .values .now in
+    let args = c .before .before .before .before .before .before .before .before .before .before .before .before .before .before .before .before .before .before .before .before .before .before .before .before .before .before .args in
+    let text = args .text .now in
+    let room = args .room in
+    let values = args .values .now in
     let size = c .before .before .before .before .before .before .before .before .before .before .before .before .before .before .before .before .before .before .before .before .before .before .before .if1 .left in
     let head = c .before .before .before .before .before .before .before .before .before .before .before .before .before .before .before .before .before .before .before .before .before .read-head in
     let found = not-false _ (c .before .before .before .before .before .before .before .before .before .before .before .before .before .before .before .before .before .if2 .left) in
     let there = sym (head .ensures .found) ∙ found in
-    let value = head-values text values _ (head .result) (head .ensures) found (omega (arith, c .before .before .before .before .before .before .before .before .before .before .before .before .before .before .before .before .before .before .before .before .before .before .before .before .before .before .pre)) in
+    let value = head-values text values _ (head .result) (head .ensures) found
+    (omega (arith, c .before .before .before .before .before .before .before .before .before .before .before .before .before .before .before .before .before .before .before .before .before .before .before .before .before .before .pre)) in
     let width = c .before .before .before .before .before .before .before .before .before .before .before .before .before .before .before .wide .ensures .0 ∙ value 1 (omega arith) in
-    let wide = ap (outside 1 longest) (sym width) ∙ sym (c .before .before .before .before .before .before .before .before .before .before .before .before .before .before .is-outside .ensures) ∙ c .before .before .before .before .before .before .before .before .before .before .before .before .before .if3 .left in
+    let wide = ap (outside 1 longest) (sym width) ∙ sym
+    (c .before .before .before .before .before .before .before .before .before .before .before .before .before .before .is-outside .ensures)
+    ∙ c .before .before .before .before .before .before .before .before .before .before .before .before .before .if3 .left in
     let height = c .before .before .before .before .before .before .before .before .before .before .before .wide2 .ensures .0 ∙ value 2 (omega arith) in
-    let high = ap (outside 1 longest) (sym height) ∙ sym (c .before .before .before .before .before .before .before .before .before .before .is-outside2 .ensures) ∙ c .before .before .before .before .before .before .before .before .before .if4 .left in
+    let high = ap (outside 1 longest) (sym height) ∙ sym
+    (c .before .before .before .before .before .before .before .before .before .before .is-outside2 .ensures)
+    ∙ c .before .before .before .before .before .before .before .before .before .if4 .left in
     let numbered = rw (value 0 (omega arith)) at (c .before .before .before .before .before .before .before .if5 .left) in
     let rows = c .before .before .before .before .before .read-rows in
-    let same : rowsOf (c .before .before .before .before .before .before .before .before .before .before .before .wide2 .result) (c .before .before .before .before .before .before .before .before .before .before .before .before .before .before .before .wide .result) (drop (head .result .next) text) ≡ rowsIn text = rw (width, height, head .ensures .rest found) in
+    let same : rowsOf (c .before .before .before .before .before .before .before .before .before .before .before .wide2 .result)
+    (c .before .before .before .before .before .before .before .before .before .before .before .before .before .before .before .wide .result)
+    (drop (head .result .next) text) ≡ rowsIn text = rw (width, height, head .ensures .rest found) in
     let stores : Stores (rowsIn text) text (head .result .next) 3 _ _ (rows .result) = rw same at (rows .ensures) in
     let broken = sym (stores .found) ∙ not-true _ (c .before .if6 .taken) in
     tests-refused text room values _ _ 8 0 (c .refused6 .ensures) (refused-rows text room size there wide high numbered broken)
@@ -171,7 +193,9 @@ returns-6 c =
 mul-pixels : tie.Need-mul-pixels
 mul-pixels c =
     let width = outside-not 1 longest (c .before .before .before .before .before .before .before .before .before .before .before .before .before .before .wide .result) (sym (c .before .before .before .before .before .before .before .before .before .before .before .before .before .is-outside .ensures) ∙ c .before .before .before .before .before .before .before .before .before .before .before .before .if3 .left) in
-    let height = outside-not 1 longest (c .before .before .before .before .before .before .before .before .before .before .wide2 .result) (sym (c .before .before .before .before .before .before .before .before .before .is-outside2 .ensures) ∙ c .before .before .before .before .before .before .before .before .if4 .left) in
+    let height = outside-not 1 longest (c .before .before .before .before .before .before .before .before .before .before .wide2 .result)
+    (sym (c .before .before .before .before .before .before .before .before .before .is-outside2 .ensures)
+    ∙ c .before .before .before .before .before .before .before .before .if4 .left) in
     record { fits = lt-of-le-of-lt (mul-le-mul (width .1) (height .1)) (lit< tt) }
 
 refused-requires-7 : tie.Need-refused-requires-7
@@ -182,26 +206,35 @@ same-length-6 c = search needs
 
 returns-7 : tie.Need-returns-7
 returns-7 c =
-    let text = c .before .before .before .before .before .before .before .before .before .before .before .before .before .before .before .before .before .before .before .before .before .before .before .before .before .before .before .args .text .now in
-    let room = c .before .before .before .before .before .before .before .before .before .before .before .before .before .before .before .before .before .before .before .before .before .before .before .before .before .before .before .args .room in
-    let values = c .before .before .before .before .before .before .before .before .before .before .before .before .before .before .before .before .before .before .before .before .before .before .before .before .before .before .before .args .values .now in
+    let args = c .before .before .before .before .before .before .before .before .before .before .before .before .before .before .before .before .before .before .before .before .before .before .before .before .before .before .before .args in
+    let text = args .text .now in
+    let room = args .room in
+    let values = args .values .now in
     let size = c .before .before .before .before .before .before .before .before .before .before .before .before .before .before .before .before .before .before .before .before .before .before .before .before .if1 .left in
     let head = c .before .before .before .before .before .before .before .before .before .before .before .before .before .before .before .before .before .before .before .before .before .before .read-head in
     let found = not-false _ (c .before .before .before .before .before .before .before .before .before .before .before .before .before .before .before .before .before .before .if2 .left) in
     let there = sym (head .ensures .found) ∙ found in
-    let value = head-values text values _ (head .result) (head .ensures) found (omega (arith, c .before .before .before .before .before .before .before .before .before .before .before .before .before .before .before .before .before .before .before .before .before .before .before .before .before .before .before .pre)) in
+    let value = head-values text values _ (head .result) (head .ensures) found
+    (omega (arith, c .before .before .before .before .before .before .before .before .before .before .before .before .before .before .before .before .before .before .before .before .before .before .before .before .before .before .before .pre)) in
     let width = c .before .before .before .before .before .before .before .before .before .before .before .before .before .before .before .before .wide .ensures .0 ∙ value 1 (omega arith) in
-    let wide = ap (outside 1 longest) (sym width) ∙ sym (c .before .before .before .before .before .before .before .before .before .before .before .before .before .before .before .is-outside .ensures) ∙ c .before .before .before .before .before .before .before .before .before .before .before .before .before .before .if3 .left in
+    let wide = ap (outside 1 longest) (sym width) ∙ sym
+    (c .before .before .before .before .before .before .before .before .before .before .before .before .before .before .before .is-outside .ensures)
+    ∙ c .before .before .before .before .before .before .before .before .before .before .before .before .before .before .if3 .left in
     let height = c .before .before .before .before .before .before .before .before .before .before .before .before .wide2 .ensures .0 ∙ value 2 (omega arith) in
-    let high = ap (outside 1 longest) (sym height) ∙ sym (c .before .before .before .before .before .before .before .before .before .before .before .is-outside2 .ensures) ∙ c .before .before .before .before .before .before .before .before .before .before .if4 .left in
+    let high = ap (outside 1 longest) (sym height) ∙ sym
+    (c .before .before .before .before .before .before .before .before .before .before .before .is-outside2 .ensures)
+    ∙ c .before .before .before .before .before .before .before .before .before .before .if4 .left in
     let numbered = rw (value 0 (omega arith)) at (c .before .before .before .before .before .before .before .before .if5 .left) in
     let rows = c .before .before .before .before .before .before .read-rows in
-    let same : rowsOf (c .before .before .before .before .before .before .before .before .before .before .before .before .wide2 .result) (c .before .before .before .before .before .before .before .before .before .before .before .before .before .before .before .before .wide .result) (drop (head .result .next) text) ≡ rowsIn text = rw (width, height, head .ensures .rest found) in
+    let same : rowsOf (c .before .before .before .before .before .before .before .before .before .before .before .before .wide2 .result)
+    (c .before .before .before .before .before .before .before .before .before .before .before .before .before .before .before .before .wide .result)
+    (drop (head .result .next) text) ≡ rowsIn text = rw (width, height, head .ensures .rest found) in
     let stores : Stores (rowsIn text) text (head .result .next) 3 _ _ (rows .result) = rw same at (rows .ensures) in
     let all = sym (stores .found) ∙ not-false _ (c .before .before .if6 .left) in
     let pixels = ap₂ (λ (w h : ℕ). w * h) width height in
     let short = rw pixels at (c .before .if7 .taken) in
-    tests-refused text room values _ _ 5 (widthIn text * heightIn text) (c .refused7 .ensures ∙ rw pixels) (refused-room text room size there wide high numbered all short)
+    tests-refused text room values _ _ 5 (widthIn text * heightIn text) (c .refused7 .ensures ∙ rw pixels)
+    (refused-room text room size there wide high numbered all short)
 
 done-requires : tie.Need-done-requires
 done-requires c κs = search needs
@@ -211,26 +244,35 @@ same-length-7 c = search needs
 
 returns-8 : tie.Need-returns-8
 returns-8 c =
-    let text = c .before .before .before .before .before .before .before .before .before .before .before .before .before .before .before .before .before .before .before .before .before .before .before .before .before .before .before .args .text .now in
-    let room = c .before .before .before .before .before .before .before .before .before .before .before .before .before .before .before .before .before .before .before .before .before .before .before .before .before .before .before .args .room in
-    let values = c .before .before .before .before .before .before .before .before .before .before .before .before .before .before .before .before .before .before .before .before .before .before .before .before .before .before .before .args .values .now in
+    let args = c .before .before .before .before .before .before .before .before .before .before .before .before .before .before .before .before .before .before .before .before .before .before .before .before .before .before .before .args in
+    let text = args .text .now in
+    let room = args .room in
+    let values = args .values .now in
     let size = c .before .before .before .before .before .before .before .before .before .before .before .before .before .before .before .before .before .before .before .before .before .before .before .before .if1 .left in
     let head = c .before .before .before .before .before .before .before .before .before .before .before .before .before .before .before .before .before .before .before .before .before .before .read-head in
     let found = not-false _ (c .before .before .before .before .before .before .before .before .before .before .before .before .before .before .before .before .before .before .if2 .left) in
     let there = sym (head .ensures .found) ∙ found in
-    let value = head-values text values _ (head .result) (head .ensures) found (omega (arith, c .before .before .before .before .before .before .before .before .before .before .before .before .before .before .before .before .before .before .before .before .before .before .before .before .before .before .before .pre)) in
+    let value = head-values text values _ (head .result) (head .ensures) found
+    (omega (arith, c .before .before .before .before .before .before .before .before .before .before .before .before .before .before .before .before .before .before .before .before .before .before .before .before .before .before .before .pre)) in
     let width = c .before .before .before .before .before .before .before .before .before .before .before .before .before .before .before .before .wide .ensures .0 ∙ value 1 (omega arith) in
-    let wide = ap (outside 1 longest) (sym width) ∙ sym (c .before .before .before .before .before .before .before .before .before .before .before .before .before .before .before .is-outside .ensures) ∙ c .before .before .before .before .before .before .before .before .before .before .before .before .before .before .if3 .left in
+    let wide = ap (outside 1 longest) (sym width) ∙ sym
+    (c .before .before .before .before .before .before .before .before .before .before .before .before .before .before .before .is-outside .ensures)
+    ∙ c .before .before .before .before .before .before .before .before .before .before .before .before .before .before .if3 .left in
     let height = c .before .before .before .before .before .before .before .before .before .before .before .before .wide2 .ensures .0 ∙ value 2 (omega arith) in
-    let high = ap (outside 1 longest) (sym height) ∙ sym (c .before .before .before .before .before .before .before .before .before .before .before .is-outside2 .ensures) ∙ c .before .before .before .before .before .before .before .before .before .before .if4 .left in
+    let high = ap (outside 1 longest) (sym height) ∙ sym
+    (c .before .before .before .before .before .before .before .before .before .before .before .is-outside2 .ensures)
+    ∙ c .before .before .before .before .before .before .before .before .before .before .if4 .left in
     let numbered = rw (value 0 (omega arith)) at (c .before .before .before .before .before .before .before .before .if5 .left) in
     let rows = c .before .before .before .before .before .before .read-rows in
-    let same : rowsOf (c .before .before .before .before .before .before .before .before .before .before .before .before .wide2 .result) (c .before .before .before .before .before .before .before .before .before .before .before .before .before .before .before .before .wide .result) (drop (head .result .next) text) ≡ rowsIn text = rw (width, height, head .ensures .rest found) in
+    let same : rowsOf (c .before .before .before .before .before .before .before .before .before .before .before .before .wide2 .result)
+    (c .before .before .before .before .before .before .before .before .before .before .before .before .before .before .before .before .wide .result)
+    (drop (head .result .next) text) ≡ rowsIn text = rw (width, height, head .ensures .rest found) in
     let stores : Stores (rowsIn text) text (head .result .next) 3 _ _ (rows .result) = rw same at (rows .ensures) in
     let all = sym (stores .found) ∙ not-false _ (c .before .before .if6 .left) in
     let pixels = ap₂ (λ (w h : ℕ). w * h) width height in
     let enough = rw pixels at (c .before .if7 .left) in
-    tests-done text room values _ _ (head .result) (rows .result) _ (head .ensures) found stores (not-false _ (c .before .before .if6 .left)) size (c .done .ensures) (accepted text room size there wide high numbered all enough)
+    tests-done text room values _ _ (head .result) (rows .result) _ (head .ensures) found stores (not-false _ (c .before .before .if6 .left)) size
+    (c .done .ensures) (accepted text room size there wide high numbered all enough)
 
 pub tested-spec : {M : Type 1} → statement M
 tested-spec =

@@ -32,13 +32,29 @@ add-bytes : tie.Need-add-bytes Inv-loop μ-loop
 add-bytes c =
     let fields = c .before .before .before .before .before .args .fields .now in
     let turn = c .before .before .before .loop in
-    omega (arith, turn .inv .1, c .digit-count .ensures, fields-length fields (turn .i) [] (omega arith), fields-most fields, c .before .before .before .before .before .pre)
+    omega (
+      arith,
+      turn .inv .1,
+      c .digit-count .ensures,
+      fields-length fields (turn .i) []
+          (omega arith),
+      fields-most fields,
+      c .before .before .before .before .before .pre,
+    )
 
 add-bytes-2 : tie.Need-add-bytes-2 Inv-loop μ-loop
 add-bytes-2 c =
     let fields = c .before .before .before .before .before .args .fields .now in
     let turn = c .before .before .before .loop in
-    omega (arith, turn .inv .1, c .digit-count .ensures, fields-length fields (turn .i) [] (omega arith), fields-most fields, c .before .before .before .before .before .pre)
+    omega (
+      arith,
+      turn .inv .1,
+      c .digit-count .ensures,
+      fields-length fields (turn .i) []
+          (omega arith),
+      fields-most fields,
+      c .before .before .before .before .before .pre,
+    )
 
 add-i : tie.Need-add-i Inv-loop μ-loop
 add-i c = search needs

@@ -17,10 +17,14 @@ put-number-requires : tie.Need-put-number-requires
 put-number-requires c κs = omega (arith, length-set (c .before .before .args .dst .now) (c .before .before .args .at) tab)
 
 same-length : tie.Need-same-length
-same-length c = omega (arith, length-set (c .before .before .before .before .before .args .dst .now) (c .before .before .before .before .before .args .at) tab, c .before .before .put-number .kept .0)
+same-length c =
+    let args = c .before .before .before .before .before .args in
+    omega (arith, length-set (args .dst .now) (args .at) tab, c .before .before .put-number .kept .0)
 
 returns : tie.Need-returns
-returns c = puts-join (puts-one (c .before .before .before .before .before .args .dst .now) (c .before .before .before .before .before .args .at) tab) (c .before .before .put-number .ensures)
+returns c =
+    let args = c .before .before .before .before .before .args in
+    puts-join (puts-one (args .dst .now) (args .at) tab) (c .before .before .put-number .ensures)
 
 pub put-field-spec : {M : Type 1} → statement M
 put-field-spec =

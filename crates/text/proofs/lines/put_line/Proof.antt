@@ -52,8 +52,12 @@ loop-less c = search needs
 loop-again : tie.Need-loop-again Inv-loop μ-loop
 loop-again c =
     let fields = c .before .before .before .before .before .before .before .before .before .args .fields .now in
-    let turn = c .before .before .before .before .before .before .loop in
-    (omega arith, omega (arith, turn .inv .1, c .before .before .put-field .kept .0), left-more (rw (fields-cons fields (turn .i) (feed ∷ []) (omega arith)) at (turn .inv .2)) (c .before .before .put-field .ensures))
+    let turn = c .before .before .before .before .before .before .loop in (
+      omega arith,
+      omega (arith, turn .inv .1, c .before .before .put-field .kept .0),
+      left-more
+          (rw (fields-cons fields (turn .i) (feed ∷ []) (omega arith)) at (turn .inv .2)) (c .before .before .put-field .ensures),
+    )
 
 slice-write-dst-2 : tie.Need-slice-write-dst-2 Inv-loop μ-loop
 slice-write-dst-2 c =

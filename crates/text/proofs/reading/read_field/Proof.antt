@@ -23,7 +23,12 @@ returns c =
     rw (c .no-number .ensures) (reads-none _ _ _ (field-tab most text at missing))
 
 add-read-number : tie.Need-add-read-number
-add-read-number c = omega (arith, starts-inside tab (c .before .before .before .args .text .now) (c .before .before .before .args .at) (sym (c .before .is-at .ensures) ∙ not-false _ (c .if1 .left)))
+add-read-number c =
+    omega (
+      arith,
+      starts-inside tab (c .before .before .before .args .text .now) (c .before .before .before .args .at)
+          (sym (c .before .is-at .ensures) ∙ not-false _ (c .if1 .left)),
+    )
 
 read-number-requires : tie.Need-read-number-requires
 read-number-requires c κs = search needs
@@ -45,10 +50,12 @@ no-number-requires-3 c κs = search needs
 
 returns-3 : tie.Need-returns-3
 returns-3 c =
-    let text = c .before .before .before .before .before .before .before .before .before .args .text .now in
-    let at = c .before .before .before .before .before .before .before .before .before .args .at in
-    let most = c .before .before .before .before .before .before .before .before .before .args .most in
-    let tabbed = sym (c .before .before .before .before .before .before .before .is-at .ensures) ∙ not-false _ (c .before .before .before .before .before .before .if1 .left) in
+    let args = c .before .before .before .before .before .before .before .before .before .args in
+    let text = args .text .now in
+    let at = args .at in
+    let most = args .most in
+    let tabbed = sym (c .before .before .before .before .before .before .before .is-at .ensures) ∙ not-false _
+    (c .before .before .before .before .before .before .if1 .left) in
     let number = c .before .before .before .before .before .read-number .ensures in
     let found = not-false _ (c .before .before .before .if2 .left) in
     let above = rw (number .value found) at (c .before .if3 .taken) in

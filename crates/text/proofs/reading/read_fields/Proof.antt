@@ -30,8 +30,14 @@ loop-holds c =
     let count = c .before .before .args .count in
     let from = c .before .before .args .from in
     let none : count ≡ count - 0 = omega arith in
-    let all = fieldsOf most count (drop at text) in
-    (search needs, refl, search needs, c .before .before .pre .0 .inside, subst (λ (k : ℕ). Going all (fieldsOf most k (drop at text)) values values from 0) none (going-start all values from))
+    let all = fieldsOf most count (drop at text) in (
+      search needs,
+      refl,
+      search needs,
+      c .before .before .pre .0 .inside,
+      subst
+          (λ (k : ℕ). Going all (fieldsOf most k (drop at text)) values values from 0) none (going-start all values from),
+    )
 
 read-field-requires : tie.Need-read-field-requires Inv-loop μ-loop
 read-field-requires c κs = search needs
@@ -44,12 +50,14 @@ same-length c = c .before .before .before .before .before .loop .inv .1
 
 returns : tie.Need-returns Inv-loop μ-loop
 returns c =
-    let text = c .before .before .before .before .before .before .before .before .args .text .now in
-    let most = c .before .before .before .before .before .before .before .before .args .most in
-    let count = c .before .before .before .before .before .before .before .before .args .count in
+    let args = c .before .before .before .before .before .before .before .before .args in
+    let text = args .text .now in
+    let most = args .most in
+    let count = args .count in
     let turn = c .before .before .before .before .before .loop in
     let field = c .before .before .before .read-field in
-    let broken = fields-broken most count (turn .i) text (turn .next) (turn .next + 2) (field .result) (field .ensures) (omega arith) (not-true _ (c .before .if1 .taken)) in
+    let broken = fields-broken most count (turn .i) text (turn .next) (turn .next + 2) (field .result) (field .ensures) (omega arith)
+    (not-true _ (c .before .if1 .taken)) in
     rw (c .no-mark .ensures) (stores-none _ _ _ _ _ _ (going-broken (turn .inv .4) broken))
 
 cast-values : tie.Need-cast-values Inv-loop μ-loop
@@ -96,25 +104,34 @@ loop-less c = search needs
 
 loop-again : tie.Need-loop-again Inv-loop μ-loop
 loop-again c =
-    let text = c .before .before .before .before .before .before .before .before .args .text .now in
-    let most = c .before .before .before .before .before .before .before .before .args .most in
-    let count = c .before .before .before .before .before .before .before .before .args .count in
+    let args = c .before .before .before .before .before .before .before .before .args in
+    let text = args .text .now in
+    let most = args .most in
+    let count = args .count in
     let turn = c .before .before .before .before .before .loop in
     let field = c .before .before .before .read-field in
     let found = not-false _ (c .before .if1 .left) in
-    let next = fields-next most count (turn .i) text (turn .next) (turn .next + 2) (field .result) (field .ensures) (omega arith) found in
-    (omega arith, length-set (turn .values) (c .before .before .before .before .before .before .before .before .args .from + turn .i) _ ∙ turn .inv .1, omega (arith, turn .inv .2, field .ensures .far found), field .ensures .inside found, going-on (field .result .value ∷ []) (turn .inv .4) next refl refl)
+    let next = fields-next most count (turn .i) text (turn .next) (turn .next + 2) (field .result) (field .ensures) (omega arith) found in (
+      omega arith,
+      length-set (turn .values) (args .from + turn .i) _ ∙ turn .inv .1,
+      omega
+          (arith, turn .inv .2, field .ensures .far found),
+      field .ensures .inside found,
+      going-on (field .result .value ∷ []) (turn .inv .4)
+          next refl refl,
+    )
 
 same-length-2 : tie.Need-same-length-2 Inv-loop μ-loop
 same-length-2 c = c .before .loop .inv .1
 
 returns-2 : tie.Need-returns-2 Inv-loop μ-loop
 returns-2 c =
-    let text = c .before .before .before .before .args .text .now in
-    let most = c .before .before .before .before .args .most in
-    let count = c .before .before .before .before .args .count in
+    let args = c .before .before .before .before .args in
+    let text = args .text .now in
+    let most = args .most in
+    let count = args .count in
     let turn = c .before .loop in
-    going-end text (c .before .before .before .before .args .at) (turn .next) (turn .inv .4) (fields-past most count (turn .i) (drop (turn .next) text) (omega arith)) (turn .inv .2) (turn .inv .3)
+    going-end text (args .at) (turn .next) (turn .inv .4) (fields-past most count (turn .i) (drop (turn .next) text) (omega arith)) (turn .inv .2) (turn .inv .3)
 
 pub read-fields-spec : {M : Type 1} → statement M
 read-fields-spec =

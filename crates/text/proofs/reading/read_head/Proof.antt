@@ -23,25 +23,37 @@ same-length c = search needs
 
 returns : tie.Need-returns
 returns c =
+    let args = c .before .before .before .before .before .before .before .before .before .args in
     let first = c .before .before .before .before .before .read-line in
-    rw (c .no-mark .ensures) (stores-none _ _ _ _ _ _ (head-broken (c .before .before .before .before .before .before .before .before .before .args .text .now) (c .before .before .before .before .before .before .before .before .before .args .values .now) _ (first .result) (first .ensures) (not-true _ (c .before .if1 .taken))))
+    rw (c .no-mark .ensures) (stores-none _ _ _ _ _ _
+    (head-broken (args .text .now) (args .values .now) _ (first .result) (first .ensures) (not-true _ (c .before .if1 .taken))))
 
 read-line-requires-2 : tie.Need-read-line-requires-2
 read-line-requires-2 c κs =
-    let text = c .before .before .before .before .before .before .before .before .before .args .text .now in
+    let args = c .before .before .before .before .before .before .before .before .before .args in
+    let text = args .text .now in
     let first = c .before .before .before .before .before .read-line in
     let found = not-false _ (c .before .if1 .left) in
     let one = line-many 68 widest 1 text (sym (first .ensures .found) ∙ found) in
-    let size = ap length (first .ensures .stored found) ∙ length-sets (c .before .before .before .before .before .before .before .before .before .args .values .now) 0 (lineOf 68 widest 1 text .values) in
-    (record { inside = first .ensures .inside found; fewer = omega (arith, first .ensures .far found); large = omega (arith, size, c .before .before .before .before .before .before .before .before .before .pre) }, le-refl widest)
+    let size = ap length (first .ensures .stored found) ∙ length-sets (args .values .now) 0 (lineOf 68 widest 1 text .values) in (
+      record {
+        inside = first .ensures .inside found;
+        fewer = omega (arith, first .ensures .far found);
+        large = omega
+            (arith, size, c .before .before .before .before .before .before .before .before .before .pre);
+      },
+      le-refl widest,
+    )
 
 same-length-2 : tie.Need-same-length-2
 same-length-2 c = search needs
 
 returns-2 : tie.Need-returns-2
 returns-2 c =
+    let args = c .before .before .before .before .before .before .before .before .before .before .before .before .args in
     let first = c .before .before .before .before .before .before .before .before .read-line in
-    head-read (c .before .before .before .before .before .before .before .before .before .before .before .before .args .text .now) (c .before .before .before .before .before .before .before .before .before .before .before .before .args .values .now) _ (first .result) (first .ensures) (not-false _ (c .before .before .before .before .if1 .left)) (c .before .before .read-line2 .ensures)
+    head-read (args .text .now) (args .values .now) _ (first .result) (first .ensures) (not-false _ (c .before .before .before .before .if1 .left))
+    (c .before .before .read-line2 .ensures)
 
 pub read-head-spec : {M : Type 1} → statement M
 read-head-spec =

@@ -47,16 +47,19 @@ same-length c = search needs
 
 returns-2 : tie.Need-returns-2
 returns-2 c =
-    let text = c .before .before .before .before .before .before .before .before .before .before .before .args .text .now in
-    let at = c .before .before .before .before .before .before .before .before .before .before .before .args .at in
-    let letter = c .before .before .before .before .before .before .before .before .before .before .before .args .letter in
-    let most = c .before .before .before .before .before .before .before .before .before .before .before .args .most in
-    let values = c .before .before .before .before .before .before .before .before .before .before .before .args .values .now in
-    let from = c .before .before .before .before .before .before .before .before .before .before .before .args .from in
-    let count = c .before .before .before .before .before .before .before .before .before .before .before .args .count in
-    let there = sym (c .before .before .before .before .before .before .before .before .is-at .ensures) ∙ not-false _ (c .before .before .before .before .before .before .before .if1 .left) in
+    let args = c .before .before .before .before .before .before .before .before .before .before .before .args in
+    let text = args .text .now in
+    let at = args .at in
+    let letter = args .letter in
+    let most = args .most in
+    let values = args .values .now in
+    let from = args .from in
+    let count = args .count in
+    let there = sym (c .before .before .before .before .before .before .before .before .is-at .ensures) ∙ not-false _
+    (c .before .before .before .before .before .before .before .if1 .left) in
     let fields = c .before .before .before .before .before .read-fields in
-    rw (c .no-mark2 .ensures) (stores-none _ _ _ _ _ _ (line-fields letter most count text at from values _ (fields .result) there (fields .ensures) (not-true _ (c .before .if2 .taken))))
+    rw (c .no-mark2 .ensures) (stores-none _ _ _ _ _ _
+    (line-fields letter most count text at from values _ (fields .result) there (fields .ensures) (not-true _ (c .before .if2 .taken))))
 
 is-at-requires-2 : tie.Need-is-at-requires-2
 is-at-requires-2 c κs = search needs
@@ -69,35 +72,40 @@ same-length-2 c = search needs
 
 returns-3 : tie.Need-returns-3
 returns-3 c =
-    let text = c .before .before .before .before .before .before .before .before .before .before .before .before .before .args .text .now in
-    let at = c .before .before .before .before .before .before .before .before .before .before .before .before .before .args .at in
-    let letter = c .before .before .before .before .before .before .before .before .before .before .before .before .before .args .letter in
-    let most = c .before .before .before .before .before .before .before .before .before .before .before .before .before .args .most in
-    let values = c .before .before .before .before .before .before .before .before .before .before .before .before .before .args .values .now in
-    let from = c .before .before .before .before .before .before .before .before .before .before .before .before .before .args .from in
-    let count = c .before .before .before .before .before .before .before .before .before .before .before .before .before .args .count in
-    let there = sym (c .before .before .before .before .before .before .before .before .before .before .is-at .ensures) ∙ not-false _ (c .before .before .before .before .before .before .before .before .before .if1 .left) in
+    let args = c .before .before .before .before .before .before .before .before .before .before .before .before .before .args in
+    let text = args .text .now in
+    let at = args .at in
+    let letter = args .letter in
+    let most = args .most in
+    let values = args .values .now in
+    let from = args .from in
+    let count = args .count in
+    let there = sym (c .before .before .before .before .before .before .before .before .before .before .is-at .ensures) ∙ not-false _
+    (c .before .before .before .before .before .before .before .before .before .if1 .left) in
     let fields = c .before .before .before .before .before .before .before .read-fields in
     let found = not-false _ (c .before .before .before .if2 .left) in
     let missing = sym (c .before .before .is-at2 .ensures) ∙ not-true _ (c .before .if3 .taken) in
     rw (c .no-mark3 .ensures) (stores-none _ _ _ _ _ _ (line-feed letter most count text at from values _ (fields .result) there (fields .ensures) found missing))
 
 add-t12 : tie.Need-add-t12
-add-t12 c = omega (arith, starts-inside feed (c .before .before .before .before .before .before .before .before .before .before .before .before .args .text .now) (c .before .before .before .before .before .before .read-fields .result .next) (sym (c .before .is-at2 .ensures) ∙ not-false _ (c .if3 .left)))
+add-t12 c =
+    omega (arith, starts-inside feed (c .before .before .before .before .before .before .before .before .before .before .before .before .args .text .now) (c .before .before .before .before .before .before .read-fields .result .next) (sym (c .before .is-at2 .ensures) ∙ not-false _ (c .if3 .left)))
 
 same-length-3 : tie.Need-same-length-3
 same-length-3 c = search needs
 
 returns-4 : tie.Need-returns-4
 returns-4 c =
-    let text = c .before .before .before .before .before .before .before .before .before .before .before .before .args .text .now in
-    let at = c .before .before .before .before .before .before .before .before .before .before .before .before .args .at in
-    let letter = c .before .before .before .before .before .before .before .before .before .before .before .before .args .letter in
-    let most = c .before .before .before .before .before .before .before .before .before .before .before .before .args .most in
-    let values = c .before .before .before .before .before .before .before .before .before .before .before .before .args .values .now in
-    let from = c .before .before .before .before .before .before .before .before .before .before .before .before .args .from in
-    let count = c .before .before .before .before .before .before .before .before .before .before .before .before .args .count in
-    let there = sym (c .before .before .before .before .before .before .before .before .before .is-at .ensures) ∙ not-false _ (c .before .before .before .before .before .before .before .before .if1 .left) in
+    let args = c .before .before .before .before .before .before .before .before .before .before .before .before .args in
+    let text = args .text .now in
+    let at = args .at in
+    let letter = args .letter in
+    let most = args .most in
+    let values = args .values .now in
+    let from = args .from in
+    let count = args .count in
+    let there = sym (c .before .before .before .before .before .before .before .before .before .is-at .ensures) ∙ not-false _
+    (c .before .before .before .before .before .before .before .before .if1 .left) in
     let fields = c .before .before .before .before .before .before .read-fields in
     let found = not-false _ (c .before .before .if2 .left) in
     let end = sym (c .before .is-at2 .ensures) ∙ not-false _ (c .if3 .left) in

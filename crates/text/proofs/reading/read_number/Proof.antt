@@ -15,7 +15,9 @@ no-number-requires : tie.Need-no-number-requires
 no-number-requires c κs = search needs
 
 returns : tie.Need-returns
-returns c = rw (c .no-number .ensures) (reads-none _ _ _ (number-missing (c .before .before .before .args .text .now) (c .before .before .before .args .at) (c .before .if1 .taken)))
+returns c =
+    rw (c .no-number .ensures) (reads-none _ _ _ (number-missing (c .before .before .before .args .text .now) (c .before .before .before .args .at)
+    (c .before .if1 .taken)))
 
 shared-slice-read-wide : tie.Need-shared-slice-read-wide
 shared-slice-read-wide c = search needs

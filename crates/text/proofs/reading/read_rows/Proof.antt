@@ -27,8 +27,14 @@ loop-holds c =
     let height = c .before .before .args .height in
     let values = c .before .before .args .values .now in
     let none : height ≡ height - 0 = omega arith in
-    let all = rowsOf height width (drop at text) in
-    (search needs, refl, search needs, c .before .before .pre .inside, subst (λ (k : ℕ). Going all (rowsOf k width (drop at text)) values values 3 0) none (going-start all values 3))
+    let all = rowsOf height width (drop at text) in (
+      search needs,
+      refl,
+      search needs,
+      c .before .before .pre .inside,
+      subst (λ (k : ℕ). Going all (rowsOf k width (drop at text)) values values 3 0)
+          none (going-start all values 3),
+    )
 
 add-read-line : tie.Need-add-read-line Inv-loop μ-loop
 add-read-line c = omega (arith, c .before .before .loop .inv .2, c .before .before .loop .inv .3)
@@ -47,12 +53,14 @@ same-length c = search needs
 
 returns : tie.Need-returns Inv-loop μ-loop
 returns c =
-    let text = c .before .before .before .before .before .before .before .before .before .before .before .args .text .now in
-    let width = c .before .before .before .before .before .before .before .before .before .before .before .args .width in
-    let height = c .before .before .before .before .before .before .before .before .before .before .before .args .height in
+    let args = c .before .before .before .before .before .before .before .before .before .before .before .args in
+    let text = args .text .now in
+    let width = args .width in
+    let height = args .height in
     let turn = c .before .before .before .before .before .before .before .before .loop in
     let line = c .before .before .before .before .before .read-line in
-    let broken = row-broken height (turn .row) width text (turn .next) (3 + turn .count) (turn .values) _ (line .result) (line .ensures) (omega arith) (not-true _ (c .before .if1 .taken)) in
+    let broken = row-broken height (turn .row) width text (turn .next) (3 + turn .count) (turn .values) _ (line .result) (line .ensures) (omega arith)
+    (not-true _ (c .before .if1 .taken)) in
     rw (c .no-mark .ensures) (stores-none _ _ _ _ _ _ (going-broken (turn .inv .4) broken))
 
 add-count : tie.Need-add-count Inv-loop μ-loop
@@ -74,15 +82,24 @@ loop-less c = search needs
 
 loop-again : tie.Need-loop-again Inv-loop μ-loop
 loop-again c =
-    let text = c .before .before .before .before .before .before .before .before .before .before .args .text .now in
-    let width = c .before .before .before .before .before .before .before .before .before .before .args .width in
-    let height = c .before .before .before .before .before .before .before .before .before .before .args .height in
+    let args = c .before .before .before .before .before .before .before .before .before .before .args in
+    let text = args .text .now in
+    let width = args .width in
+    let height = args .height in
     let turn = c .before .before .before .before .before .before .before .loop in
     let line = c .before .before .before .before .read-line in
     let found = not-false _ (c .if1 .left) in
     let many = line-many 82 255 width (drop (turn .next) text) (sym (line .ensures .found) ∙ found) in
-    let next = row-next height (turn .row) width text (turn .next) (3 + turn .count) (turn .values) _ (line .result) (line .ensures) (omega arith) found in
-    (omega arith, ap length (line .ensures .stored found) ∙ length-sets (turn .values) (3 + turn .count) (lineOf 82 255 width (drop (turn .next) text) .values) ∙ turn .inv .1, omega (arith, turn .inv .2, many, line .ensures .far found), line .ensures .inside found, going-on (lineOf 82 255 width (drop (turn .next) text) .values) (turn .inv .4) next (line .ensures .stored found) (ap (λ (k : ℕ). turn .count + k) many))
+    let next = row-next height (turn .row) width text (turn .next) (3 + turn .count) (turn .values) _ (line .result) (line .ensures) (omega arith) found in (
+      omega arith,
+      ap length (line .ensures .stored found) ∙ length-sets (turn .values) (3 + turn .count)
+          (lineOf 82 255 width (drop (turn .next) text) .values) ∙ turn .inv .1,
+      omega
+          (arith, turn .inv .2, many, line .ensures .far found),
+      line .ensures .inside found,
+      going-on
+          (lineOf 82 255 width (drop (turn .next) text) .values) (turn .inv .4) next (line .ensures .stored found) (ap (λ (k : ℕ). turn .count + k) many),
+    )
 
 no-mark-requires-2 : tie.Need-no-mark-requires-2 Inv-loop μ-loop
 no-mark-requires-2 c κs = search needs
@@ -92,8 +109,9 @@ same-length-2 c = c .before .before .before .loop .inv .1
 
 returns-2 : tie.Need-returns-2 Inv-loop μ-loop
 returns-2 c =
+    let args = c .before .before .before .before .before .before .args in
     let turn = c .before .before .before .loop in
-    let more = rows-more (c .before .before .before .before .before .before .args .height) (turn .row) (c .before .before .before .before .before .before .args .width) (c .before .before .before .before .before .before .args .text .now) (turn .next) (omega arith) (c .before .if2 .taken) in
+    let more = rows-more (args .height) (turn .row) (args .width) (args .text .now) (turn .next) (omega arith) (c .before .if2 .taken) in
     rw (c .no-mark2 .ensures) (stores-none _ _ _ _ _ _ (going-broken (turn .inv .4) more))
 
 same-length-3 : tie.Need-same-length-3 Inv-loop μ-loop
@@ -101,10 +119,11 @@ same-length-3 c = c .before .before .loop .inv .1
 
 returns-3 : tie.Need-returns-3 Inv-loop μ-loop
 returns-3 c =
-    let text = c .before .before .before .before .before .args .text .now in
+    let args = c .before .before .before .before .before .args in
+    let text = args .text .now in
     let turn = c .before .before .loop in
-    let past = rows-past (c .before .before .before .before .before .args .height) (turn .row) (c .before .before .before .before .before .args .width) text (turn .next) (omega arith) (c .if2 .left) in
-    going-end text (c .before .before .before .before .before .args .at) (turn .next) (turn .inv .4) past (turn .inv .2) (turn .inv .3)
+    let past = rows-past (args .height) (turn .row) (args .width) text (turn .next) (omega arith) (c .if2 .left) in
+    going-end text (args .at) (turn .next) (turn .inv .4) past (turn .inv .2) (turn .inv .3)
 
 pub read-rows-spec : {M : Type 1} → statement M
 read-rows-spec =

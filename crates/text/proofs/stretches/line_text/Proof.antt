@@ -15,20 +15,22 @@ is-printable-requires c κs = search needs
 
 put-title-requires : tie.Need-put-title-requires
 put-title-requires c κs =
-    let z = c .before .before .before .before .before .before .args .z in
-    let line = c .before .before .before .before .before .before .args .line .now in
+    let args = c .before .before .before .before .before .before .args in
+    let z = args .z in
+    let line = args .line .now in
     let bits = toZ-ofZ (c .before .before .before .before .before .before .fits .z) in
     let ok = sym (c .before .before .is-printable .ensures) ∙ c .before .if1 .taken in
-    let room = printable (length line) (length (c .before .before .before .before .before .before .args .scratch .now)) (length (c .before .before .before .before .before .before .args .dst .now)) ok in
+    let room = printable (length line) (length (args .scratch .now)) (length (args .dst .now)) ok in
     rw bits (omega (arith, room .2, title-most z (length line)))
 
 put-stretches-requires : tie.Need-put-stretches-requires
 put-stretches-requires c κs =
-    let z = c .before .before .before .before .before .before .before .before .before .before .before .args .z in
-    let line = c .before .before .before .before .before .before .before .before .before .before .before .args .line .now in
+    let args = c .before .before .before .before .before .before .before .before .before .before .before .args in
+    let z = args .z in
+    let line = args .line .now in
     let bits = toZ-ofZ (c .before .before .before .before .before .before .before .before .before .before .before .fits .z) in
     let ok = sym (c .before .before .before .before .before .before .before .is-printable .ensures) ∙ c .before .before .before .before .before .before .if1 .taken in
-    let room = printable (length line) (length (c .before .before .before .before .before .before .before .before .before .before .before .args .scratch .now)) (length (c .before .before .before .before .before .before .before .before .before .before .before .args .dst .now)) ok in
+    let room = printable (length line) (length (args .scratch .now)) (length (args .dst .now)) ok in
     let title = rw bits at (c .before .before .before .before .put-title .ensures) in
     (room .0, room .1, omega (arith, room .2, title .next, c .before .before .before .before .put-title .kept .0, report-length z line, report-fits z line))
 
@@ -40,11 +42,13 @@ same-length-2 c = search needs
 
 returns : tie.Need-returns
 returns c =
-    let z = c .before .before .before .before .before .before .before .before .before .before .before .before .before .before .before .before .args .z in
-    let line = c .before .before .before .before .before .before .before .before .before .before .before .before .before .before .before .before .args .line .now in
+    let args = c .before .before .before .before .before .before .before .before .before .before .before .before .before .before .before .before .args in
+    let z = args .z in
+    let line = args .line .now in
     let bits = toZ-ofZ (c .before .before .before .before .before .before .before .before .before .before .before .before .before .before .before .before .fits .z) in
-    let ok = sym (c .before .before .before .before .before .before .before .before .before .before .before .before .is-printable .ensures) ∙ c .before .before .before .before .before .before .before .before .before .before .before .if1 .taken in
-    let room = printable (length line) (length (c .before .before .before .before .before .before .before .before .before .before .before .before .before .before .before .before .args .scratch .now)) (length (c .before .before .before .before .before .before .before .before .before .before .before .before .before .before .before .before .args .dst .now)) ok in
+    let ok = sym (c .before .before .before .before .before .before .before .before .before .before .before .before .is-printable .ensures)
+    ∙ c .before .before .before .before .before .before .before .before .before .before .before .if1 .taken in
+    let room = printable (length line) (length (args .scratch .now)) (length (args .dst .now)) ok in
     let title = rw bits at (c .before .before .before .before .before .before .before .before .before .put-title .ensures) in
     record {
       text = prints-done ok (report-put z line title (c .before .before .before .before .put-stretches .ensures .0)) (omega (arith, room .2, report-fits z line));
@@ -54,8 +58,9 @@ returns c =
 
 returns-2 : tie.Need-returns-2
 returns-2 c =
+    let args = c .before .before .before .before .before .args in
     let not = sym (c .before .is-printable .ensures) ∙ c .if1 .left in
-    record { text = prints-none (lineReport (c .before .before .before .before .before .args .z) (c .before .before .before .before .before .args .line .now)) (c .before .before .before .before .before .args .dst .now) not; scratch-kept = λ e. refl; scratch-length = refl }
+    record { text = prints-none (lineReport (args .z) (args .line .now)) (args .dst .now) not; scratch-kept = λ e. refl; scratch-length = refl }
 
 pub line-text-spec : {M : Type 1} → statement M
 line-text-spec =

@@ -35,15 +35,19 @@ put-number-requires c κs =
     omega (arith, ap length text, c .before .before .before .before .pre, length-set dst at 45)
 
 same-length : tie.Need-same-length
-same-length c = omega (arith, length-set (c .before .before .before .before .before .before .before .args .dst .now) (c .before .before .before .before .before .before .before .args .at) 45, c .before .before .put-number .kept .0)
+same-length c =
+    let args = c .before .before .before .before .before .before .before .args in
+    omega (arith, length-set (args .dst .now) (args .at) 45, c .before .before .put-number .kept .0)
 
 returns : tie.Need-returns
 returns c =
-    let z = c .before .before .before .before .before .before .before .args .z in
-    let dst = c .before .before .before .before .before .before .before .args .dst .now in
-    let at = c .before .before .before .before .before .before .before .args .at in
+    let args = c .before .before .before .before .before .before .before .args in
+    let z = args .z in
+    let dst = args .dst .now in
+    let at = args .at in
     let bits = toZ-ofZ (c .before .before .before .before .before .before .before .fits .z) in
-    let text = signed-below z (c .before .before .before .before .before .size .result) (c .before .before .before .before .before .size .ensures ∙ ap natAbs bits) (rw bits at (c .before .before .before .before .if1 .taken)) in
+    let text = signed-below z (c .before .before .before .before .before .size .result)
+    (c .before .before .before .before .before .size .ensures ∙ ap natAbs bits) (rw bits at (c .before .before .before .before .if1 .taken)) in
     puts-as (puts-join (puts-one dst at 45) (c .before .before .put-number .ensures)) text
 
 put-number-requires-2 : tie.Need-put-number-requires-2
@@ -60,11 +64,13 @@ same-length-2 c = search needs
 
 returns-2 : tie.Need-returns-2
 returns-2 c =
-    let z = c .before .before .before .before .before .before .before .args .z in
-    let dst = c .before .before .before .before .before .before .before .args .dst .now in
-    let at = c .before .before .before .before .before .before .before .args .at in
+    let args = c .before .before .before .before .before .before .before .args in
+    let z = args .z in
+    let dst = args .dst .now in
+    let at = args .at in
     let bits = toZ-ofZ (c .before .before .before .before .before .before .before .fits .z) in
-    let text = signed-above z (c .before .before .before .before .before .size .result) (c .before .before .before .before .before .size .ensures ∙ ap natAbs bits) (rw bits at (c .before .before .before .before .if1 .left)) in
+    let text = signed-above z (c .before .before .before .before .before .size .result)
+    (c .before .before .before .before .before .size .ensures ∙ ap natAbs bits) (rw bits at (c .before .before .before .before .if1 .left)) in
     puts-as (c .before .before .put-number2 .ensures) text
 
 pub put-signed-spec : {M : Type 1} → statement M

@@ -28,8 +28,9 @@ begin-requires c κs = search needs
 
 loop-holds : tie.Need-loop-holds Inv-loop μ-loop
 loop-holds c =
+    let args = c .before .before .before .before .args in
     let pre = c .before .before .before .before .pre in
-    (refl, refl, rw (c .begin .ensures, coming-beginning (c .before .before .before .before .args .line .now) (c .before .before .before .before .args .scratch .now) (pre .0) (pre .1)) (left-start _ _ _))
+    (refl, refl, rw (c .begin .ensures, coming-beginning (args .line .now) (args .scratch .now) (pre .0) (pre .1)) (left-start _ _ _))
 
 next-requires : tie.Need-next-requires Inv-loop μ-loop
 next-requires c κs = search needs
@@ -65,15 +66,24 @@ put-line-requires c κs =
     omega (arith, same, room, at .inv .1, c .before .before .before .before .before .before .before .before .before .before .before .before .before .before .pre .2)
 
 loop-less : tie.Need-loop-less Inv-loop μ-loop
-loop-less c = omega (arith, ap length (c .before .before .before .before .before .before .before .before .before .before .before .next .ensures .comes (not-false _ (c .before .before .before .before .before .before .before .if1 .left))))
+loop-less c =
+    omega (
+      arith,
+      ap length (c .before .before .before .before .before .before .before .before .before .before .before .next .ensures .comes
+          (not-false _ (c .before .before .before .before .before .before .before .if1 .left))),
+    )
 
 loop-again : tie.Need-loop-again Inv-loop μ-loop
 loop-again c =
     let at = c .before .before .before .before .before .before .before .before .before .before .before .before .before .loop in
     let next = c .before .before .before .before .before .before .before .before .before .before .before .next in
     let comes = next .ensures .comes (not-false _ (c .before .before .before .before .before .before .before .if1 .left)) in
-    let left = rw (comes, stretches-cons) at (at .inv .2) in
-    (next .ensures .kept ∙ at .inv .0, c .before .before .before .put-line .kept .0 ∙ at .inv .1, left-more left (rw (c .before .before .before .before .before .before .stretch-fields .ensures) at (c .before .before .before .put-line .ensures)))
+    let left = rw (comes, stretches-cons) at (at .inv .2) in (
+      next .ensures .kept ∙ at .inv .0,
+      c .before .before .before .put-line .kept .0 ∙ at .inv .1,
+      left-more left
+          (rw (c .before .before .before .before .before .before .stretch-fields .ensures) at (c .before .before .before .put-line .ensures)),
+    )
 
 pub put-stretches-spec : {M : Type 1} → statement M
 put-stretches-spec =

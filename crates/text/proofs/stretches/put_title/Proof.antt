@@ -40,47 +40,83 @@ put-signed-requires c κs =
 
 put-field-requires : tie.Need-put-field-requires
 put-field-requires c κs =
-    let z = c .before .before .before .before .before .before .args .z in
-    let dst = c .before .before .before .before .before .before .args .dst .now in
-    let long = title-length z (c .before .before .before .before .before .before .args .pixels) in
+    let args = c .before .before .before .before .before .before .args in
+    let z = args .z in
+    let dst = args .dst .now in
+    let long = title-length z (args .pixels) in
     let bits = toZ-ofZ (c .before .before .before .before .before .before .fits .z) in
     let signed = rw bits at (c .before .before .before .put-signed .ensures) in
-    omega (arith, long, c .before .before .before .before .before .before .pre, length-set dst 0 76, length-set (set dst 0 76) 1 tab, signed .next, c .before .before .before .put-signed .kept .0)
+    omega (
+      arith,
+      long,
+      c .before .before .before .before .before .before .pre,
+      length-set dst 0 76,
+      length-set (set dst 0 76)
+          1 tab,
+      signed .next,
+      c .before .before .before .put-signed .kept .0,
+    )
 
 slice-write-dst-3 : tie.Need-slice-write-dst-3
 slice-write-dst-3 c =
-    let z = c .before .before .before .before .before .before .before .before .before .args .z in
-    let dst = c .before .before .before .before .before .before .before .before .before .args .dst .now in
-    let long = title-length z (c .before .before .before .before .before .before .before .before .before .args .pixels) in
+    let args = c .before .before .before .before .before .before .before .before .before .args in
+    let z = args .z in
+    let dst = args .dst .now in
+    let long = title-length z (args .pixels) in
     let bits = toZ-ofZ (c .before .before .before .before .before .before .before .before .before .fits .z) in
     let signed = rw bits at (c .before .before .before .before .before .before .put-signed .ensures) in
-    omega (arith, long, c .before .before .before .before .before .before .before .before .before .pre, length-set dst 0 76, length-set (set dst 0 76) 1 tab, signed .next, c .before .before .before .before .before .before .put-signed .kept .0, c .before .before .put-field .ensures .next, c .before .before .put-field .kept .0)
+    omega (
+      arith,
+      long,
+      c .before .before .before .before .before .before .before .before .before .pre,
+      length-set dst 0 76,
+      length-set (set dst 0 76)
+          1 tab,
+      signed .next,
+      c .before .before .before .before .before .before .put-signed .kept .0,
+      c .before .before .put-field .ensures .next,
+      c .before .before .put-field .kept .0,
+    )
 
 add-result : tie.Need-add-result
 add-result c =
-    let z = c .before .before .before .before .before .before .before .before .before .args .z in
-    let dst = c .before .before .before .before .before .before .before .before .before .args .dst .now in
-    let long = title-length z (c .before .before .before .before .before .before .before .before .before .args .pixels) in
+    let args = c .before .before .before .before .before .before .before .before .before .args in
+    let z = args .z in
+    let dst = args .dst .now in
+    let long = title-length z (args .pixels) in
     let bits = toZ-ofZ (c .before .before .before .before .before .before .before .before .before .fits .z) in
     let signed = rw bits at (c .before .before .before .before .before .before .put-signed .ensures) in
-    omega (arith, long, c .before .before .before .before .before .before .before .before .before .pre, length-set dst 0 76, length-set (set dst 0 76) 1 tab, signed .next, c .before .before .before .before .before .before .put-signed .kept .0, c .before .before .put-field .ensures .next, c .before .before .put-field .kept .0)
+    omega (
+      arith,
+      long,
+      c .before .before .before .before .before .before .before .before .before .pre,
+      length-set dst 0 76,
+      length-set (set dst 0 76)
+          1 tab,
+      signed .next,
+      c .before .before .before .before .before .before .put-signed .kept .0,
+      c .before .before .put-field .ensures .next,
+      c .before .before .put-field .kept .0,
+    )
 
 same-length : tie.Need-same-length
 same-length c =
-    let z = c .before .before .before .before .before .before .before .before .before .args .z in
-    let dst = c .before .before .before .before .before .before .before .before .before .args .dst .now in
-    let long = title-length z (c .before .before .before .before .before .before .before .before .before .args .pixels) in
+    let args = c .before .before .before .before .before .before .before .before .before .args in
+    let z = args .z in
+    let dst = args .dst .now in
+    let long = title-length z (args .pixels) in
     let bits = toZ-ofZ (c .before .before .before .before .before .before .before .before .before .fits .z) in
     simp length-set (omega (arith, c .before .before .before .before .before .before .put-signed .kept .0, c .before .before .put-field .kept .0, length-set dst 0 76, length-set (set dst 0 76) 1 tab))
 
 returns : tie.Need-returns
 returns c =
-    let z = c .before .before .before .before .before .before .before .before .before .args .z in
-    let dst = c .before .before .before .before .before .before .before .before .before .args .dst .now in
-    let long = title-length z (c .before .before .before .before .before .before .before .before .before .args .pixels) in
+    let args = c .before .before .before .before .before .before .before .before .before .args in
+    let z = args .z in
+    let dst = args .dst .now in
+    let long = title-length z (args .pixels) in
     let bits = toZ-ofZ (c .before .before .before .before .before .before .before .before .before .fits .z) in
     let signed = rw bits at (c .before .before .before .before .before .before .put-signed .ensures) in
-    title-put z (c .before .before .before .before .before .before .before .before .before .args .pixels) (front dst) signed (c .before .before .put-field .ensures) (puts-one _ (c .before .before .put-field .result) feed)
+    title-put z (args .pixels) (front dst) signed (c .before .before .put-field .ensures) (puts-one _ (c .before .before .put-field .result) feed)
 
 pub put-title-spec : {M : Type 1} → statement M
 put-title-spec =

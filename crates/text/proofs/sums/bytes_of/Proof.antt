@@ -43,8 +43,9 @@ add-result-2 c = search needs
 
 returns : tie.Need-returns
 returns c =
-    let direction = c .before .before .before .before .before .before .before .before .args .direction in
-    let sums = c .before .before .before .before .before .before .before .before .args .sums .now in
+    let args = c .before .before .before .before .before .before .before .before .args in
+    let direction = args .direction in
+    let sums = args .sums .now in
     let head = ap (λ (fields : List ℕ). length (lineText 71 fields)) (c .before .before .before .before .before .before .head-fields .ensures) in
     let rest = ap (λ (fields : List ℕ). length (lineText 84 fields)) (c .before .before .before .before .before .rest-fields .ensures) in
     omega (arith, head, rest, c .before .before .before .line-bytes .ensures .0, c .before .before .bins-bytes .ensures .0, c .line-bytes2 .ensures .0, sums-length direction sums)

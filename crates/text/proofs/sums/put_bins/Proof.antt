@@ -30,11 +30,21 @@ slice-aggregate-put-line c = sym (ap length (c .before .before .bin-fields .ensu
 
 put-line-requires : tie.Need-put-line-requires Inv-loop μ-loop
 put-line-requires c κs =
-    let sums = c .before .before .before .before .before .before .before .args .sums .now in
+    let args = c .before .before .before .before .before .before .before .args in
+    let sums = args .sums .now in
     let turn = c .before .before .before .before .loop in
     let f : ℕ → List ℕ = λ (i : ℕ). lineText 66 (binFields sums i) in
     let same = ap (λ (fields : List ℕ). length (lineText 66 fields)) (c .before .before .bin-fields .ensures) in
-    omega (arith, turn .inv .1, turn .inv .2 .next, same, each-length f (turn .i), each-more f (turn .i + 1) (c .before .before .before .before .before .before .before .args .n) (omega arith), c .before .before .before .before .before .before .before .pre .1)
+    omega (
+      arith,
+      turn .inv .1,
+      turn .inv .2 .next,
+      same,
+      each-length f (turn .i),
+      each-more f (turn .i + 1) (args .n)
+          (omega arith),
+      c .before .before .before .before .before .before .before .pre .1,
+    )
 
 add-i : tie.Need-add-i Inv-loop μ-loop
 add-i c = search needs
@@ -46,8 +56,12 @@ loop-again : tie.Need-loop-again Inv-loop μ-loop
 loop-again c =
     let sums = c .before .before .before .before .before .before .before .before .before .before .args .sums .now in
     let turn = c .before .before .before .before .before .before .before .loop in
-    let put = c .before .before .put-line in
-    (omega arith, omega (arith, turn .inv .1, put .kept .0), puts-each (λ (i : ℕ). lineText 66 (binFields sums i)) (turn .i) (turn .inv .2) (rw (c .before .before .before .before .before .bin-fields .ensures) at (put .ensures)))
+    let put = c .before .before .put-line in (
+      omega arith,
+      omega (arith, turn .inv .1, put .kept .0),
+      puts-each (λ (i : ℕ). lineText 66 (binFields sums i)) (turn .i) (turn .inv .2)
+          (rw (c .before .before .before .before .before .bin-fields .ensures) at (put .ensures)),
+    )
 
 same-length : tie.Need-same-length Inv-loop μ-loop
 same-length c = search needs

@@ -19,7 +19,8 @@ returns c =
 
 put-sums-requires : tie.Need-put-sums-requires
 put-sums-requires c κs =
-    let fits = sums-fits (c .before .before .before .before .before .before .args .direction) (c .before .before .before .before .before .before .args .sums .now) (length (c .before .before .before .before .before .before .args .dst .now)) (c .before .before .before .refusal .ensures) (c .before .if1 .left) in
+    let args = c .before .before .before .before .before .before .args in
+    let fits = sums-fits (args .direction) (args .sums .now) (length (args .dst .now)) (c .before .before .before .refusal .ensures) (c .before .if1 .left) in
     (omega (arith, fits .0), fits .1)
 
 same-length : tie.Need-same-length
@@ -27,9 +28,15 @@ same-length c = search needs
 
 returns-2 : tie.Need-returns-2
 returns-2 c =
+    let args = c .before .before .before .before .before .before .before .before .before .args in
     let a = c .before .before .before .before .before .before .refusal .result in
-    let fits = sums-fits (c .before .before .before .before .before .before .before .before .before .args .direction) (c .before .before .before .before .before .before .before .before .before .args .sums .now) (length (c .before .before .before .before .before .before .before .before .before .args .dst .now)) (c .before .before .before .before .before .before .refusal .ensures) (c .before .before .before .before .if1 .left) in
-    record { answers = c .before .before .before .before .before .before .refusal .ensures; written = put-front (c .before .before .put-sums .ensures) (fits .1) ∙ sym (after-done a _ _ (c .before .before .before .before .if1 .left)) }
+    let fits = sums-fits (args .direction) (args .sums .now) (length (args .dst .now))
+    (c .before .before .before .before .before .before .refusal .ensures) (c .before .before .before .before .if1 .left) in
+    record {
+      answers = c .before .before .before .before .before .before .refusal .ensures;
+      written = put-front (c .before .before .put-sums .ensures)
+          (fits .1) ∙ sym (after-done a _ _ (c .before .before .before .before .if1 .left));
+    }
 
 pub sums-text-spec : {M : Type 1} → statement M
 sums-text-spec =
