@@ -4,7 +4,8 @@
 --   frame-read       a text in which the first two lines and the rows are found is the text of the frame that is read
 --   head-found, frame-written    in the text of a frame both are found, and the frame is read from it
 --   accepted-text, text-accepted the texts that no rule refuses are those of the frames whose numbers are in their ranges
--- Document 01's example is computed at the end. Assumes nothing.
+--   input-example    the input of document 01's example
+-- Assumes nothing.
 use mathlib.Core.Path.{_≡_, refl, sym, ap, ap₂, _∙_}
 use mathlib.Core.Bool.{Bool, true, false, cond, _&&_, false≢true}
 use mathlib.Core.List.{List, [], _∷_, _++_, append-assoc}
@@ -313,10 +314,10 @@ text-accepted d w h ps room numbered wide high many dim size fit =
     accepted (frameText d w h ps) room size (ap (λ (r : Values). r .found) head) (ap (outside 1 longest) width-is ∙ wide) (ap (outside 1 longest) height-is ∙ high)
     (omega (arith, direction-is)) (ap (λ (r : Values). r .found) rows) (omega (arith, area))
 
--- the input of document 01's example
-example : frameText 0 5 1 (3 ∷ 5 ∷ 5 ∷ 2 ∷ 4 ∷ []) ≡
+-- 'For the input' D 0, F 5 1, R 3 5 5 2 4
+pub input-example : frameText 0 5 1 (3 ∷ 5 ∷ 5 ∷ 2 ∷ 4 ∷ []) ≡
     68 ∷ 9 ∷ 48 ∷ 10
     ∷ 70 ∷ 9 ∷ 53 ∷ 9 ∷ 49 ∷ 10
     ∷ 82 ∷ 9 ∷ 51 ∷ 9 ∷ 53 ∷ 9 ∷ 53 ∷ 9 ∷ 50 ∷ 9 ∷ 52 ∷ 10 ∷ []
 unfolding frameText rowsText fieldsText digits
-example = refl
+input-example = refl

@@ -6,7 +6,8 @@
 --   puts-as                      the same text by another name
 --   prints-done, prints-none     a text put at the front, or none
 --   printable                    what the test of a line says
--- Document 01's example of the program stretches is computed at the end. Assumes nothing.
+--   line-example                 document 01's example of the program stretches
+-- Assumes nothing.
 use mathlib.Core.Path.{_≡_, refl, _∙_}
 use mathlib.Core.Bool.{Bool, true, false, cond, _&&_}
 use mathlib.Core.List.{List, [], _∷_, _++_}
@@ -98,11 +99,11 @@ printable n spare room e =
     (leb-true n longest (both-left (leb n longest) (leb (4 * n) spare && leb (64 + 86 * n) room) e), leb-true (4 * n) spare (both-left (leb (4 * n) spare) (leb (64 + 86 * n) room) more), leb-true (64 + 86 * n) room (both-right (leb (4 * n) spare) (leb (64 + 86 * n) room) more))
 
 -- 'it prints' L 0 5, Z 1 3 5 3, Z 0 3 3 2, Z 4 5 4 2, Z 0 5 2 0
-example : lineReport (pos 0) (3 ∷ 5 ∷ 5 ∷ 2 ∷ 4 ∷ []) ≡
+pub line-example : lineReport (pos 0) (3 ∷ 5 ∷ 5 ∷ 2 ∷ 4 ∷ []) ≡
     76 ∷ 9 ∷ 48 ∷ 9 ∷ 53 ∷ 10
     ∷ 90 ∷ 9 ∷ 49 ∷ 9 ∷ 51 ∷ 9 ∷ 53 ∷ 9 ∷ 51 ∷ 10
     ∷ 90 ∷ 9 ∷ 48 ∷ 9 ∷ 51 ∷ 9 ∷ 51 ∷ 9 ∷ 50 ∷ 10
     ∷ 90 ∷ 9 ∷ 52 ∷ 9 ∷ 53 ∷ 9 ∷ 52 ∷ 9 ∷ 50 ∷ 10
     ∷ 90 ∷ 9 ∷ 48 ∷ 9 ∷ 53 ∷ 9 ∷ 50 ∷ 9 ∷ 48 ∷ 10 ∷ []
 unfolding lineReport titleText stretchesText fieldsText digits bright.stretches bright.endingAt bright.isStretch bright.stretchOf bright.levelOf extremes.least extremes.greatest tables.each
-example = refl
+line-example = refl

@@ -3,7 +3,8 @@
 --   sums-put         its parts put one behind the other
 --   sums-fits        the sums and the room, once `sums_text` is not refused
 --   put-front        a text put at the front of a destination
--- Document 01's example of the program sums is computed at the end. Assumes nothing.
+--   sums-example     document 01's example of the program sums
+-- Assumes nothing.
 use mathlib.Core.Path.{_≡_, refl, ap, _∙_}
 use mathlib.Core.List.{List, [], _∷_, _++_}
 use Prim.Native.Nat.{ℕ, _+_, _-_, _≤_}
@@ -42,11 +43,11 @@ pub put-front : {t bs t′ : List ℕ} {r : ℕ} → Puts t 0 bs t′ r → leng
 put-front {t} {bs} p fit = p .wrote ∙ sets-front t bs fit
 
 -- 'it prints' G 0 3, B 1 2, B 2 4, B 3 3, T 10
-example : sumsText 0 (2 ∷ 4 ∷ 3 ∷ 10 ∷ []) ≡
+pub sums-example : sumsText 0 (2 ∷ 4 ∷ 3 ∷ 10 ∷ []) ≡
     71 ∷ 9 ∷ 48 ∷ 9 ∷ 51 ∷ 10
     ∷ 66 ∷ 9 ∷ 49 ∷ 9 ∷ 50 ∷ 10
     ∷ 66 ∷ 9 ∷ 50 ∷ 9 ∷ 52 ∷ 10
     ∷ 66 ∷ 9 ∷ 51 ∷ 9 ∷ 51 ∷ 10
     ∷ 84 ∷ 9 ∷ 49 ∷ 48 ∷ 10 ∷ []
 unfolding sumsText fieldsText digits tables.each
-example = refl
+sums-example = refl

@@ -3,7 +3,7 @@
 --   fieldsText vs          the numbers vs, each after a tab
 --   lineText letter vs     a line: its letter, its fields and the line feed
 --   Puts d at bs d′ r      d′ is d with the bytes bs stored from `at` on, and r is the place behind them
--- Laws: text/proofs/Lines.
+-- Laws: text/proofs/Runs.
 use mathlib.Core.Path.{_≡_}
 use mathlib.Core.List.{List, [], _∷_, _++_}
 use Prim.Native.Nat.{ℕ, _+_}

@@ -5,6 +5,7 @@
 --   Openings      demand 2: openings, erosion, dilation, the highest over sixteen directions and its direction, value by value
 --   Sums          demand 2: size sums, the rose, the summary
 --   Stretches     demand 3: the list of bright stretches; openings and size sums from it
+--   Texts         the sums text and the programs: what is written and read, the example byte for byte
 --   Outcomes      one input allows one outcome; Engines: the same of the calls that only other crates of the library make
 --   Facts         why the computing definitions say what specs/Equation says in facts
 pub mod Marked
@@ -14,5 +15,6 @@ pub mod Refusals
 pub mod Openings
 pub mod Sums
 pub mod Stretches
+pub mod Texts
 pub mod Outcomes
 pub mod Engines

@@ -5,13 +5,16 @@
 --   open-frame-once, highest-once, directions-once, host-once
 --   list-once, next-once
 --   sums-of-line-once, sums-of-frame-once, rose-once
+--   sums-text-once, read-input-once, line-text-once, refusal-text-once
 -- The contract of every other call is an equation `answer ≡ definition`, which one value alone meets: `row`, `lines_of`, `sweep_of`, `span_of`,
 -- `numbered`, `turned`, `is_shallow`, `is_direction`, `is_frame`, `bytes`, `strip_bytes`, `begin`, `count`, `rose_refusal`, `summarize`, `is_outside`,
 -- `growth`, `Answer::done`, `Answer::refused`. Engines has the calls that only other crates of the library make.
 -- Assumes nothing.
 use mathlib.Core.Path.{_≡_, sym, ap, _∙_}
+use mathlib.Core.Bool.{Bool}
 use mathlib.Core.List.{List, map}
 use Prim.Native.Nat.{ℕ, _-_}
+use lib.Dec.{leb}
 use lib.ListN.{length}
 use lib.IntN.{ℤ}
 use Rattle.lists.specs.Stores.{front}
@@ -41,6 +44,10 @@ use Rattle.sizes.specs.Sums.{lineSums, frameSums}
 use Rattle.sizes.specs.Line.{SumsLine}
 use Rattle.sizes.specs.Frame.{SumsFrame}
 use Rattle.sizes.specs.Rose.{Roses}
+use Rattle.text.specs.declared.input.Input.{Input}
+use Rattle.text.specs.Inputs.{rowsIn, ReadsInput}
+use Rattle.text.specs.Stretches.{refusalText, Prints, PrintsLine}
+use Rattle.text.specs.Sums.{sumsText, WritesSums}
 
 -- what an answer settles of a buffer is one thing where the answers are one
 alike : {A : Type 0} (new old : A) {b₁ b₂ : A} {a₁ a₂ : Answer} → a₁ ≡ a₂ → b₁ ≡ after a₁ new old → b₂ ≡ after a₂ new old → b₁ ≡ b₂
@@ -112,3 +119,26 @@ sums-of-frame-once {f} {sh} {d} {sums} {a₁ = a₁} {a₂ = a₂} p q =
 
 pub rose-once : {f : List ℕ} {sh : Shape} {t t₁ t₂ : List ℕ} {r₁ r₂ : List (List ℕ)} → Roses f sh t t₁ r₁ → Roses f sh t t₂ r₂ → r₁ ≡ r₂
 rose-once p q = p .rows ∙ sym (q .rows)
+
+-- ---- texts
+
+pub sums-text-once : {d : ℕ} {s dst dst₁ dst₂ : List ℕ} {a₁ a₂ : Answer} → WritesSums d s dst dst₁ a₁ → WritesSums d s dst dst₂ a₂ → (a₁ ≡ a₂) × (dst₁ ≡ dst₂)
+sums-text-once {d} {s} {dst} {a₁ = a₁} {a₂ = a₂} p q =
+    let e : a₁ ≡ a₂ = p .answers ∙ sym (q .answers) in
+    (e, alike (front (sumsText d s) dst) dst e (p .written) (q .written))
+
+pub read-input-once : {s dst dst₁ dst₂ : List ℕ} {r₁ r₂ : Input} → ReadsInput s dst dst₁ r₁ → ReadsInput s dst dst₂ r₂ → (r₁ ≡ r₂) × (dst₁ ≡ dst₂)
+read-input-once {s} {dst} {r₁ = r₁} {r₂ = r₂} p q =
+    let e : r₁ ≡ r₂ = p .reads ∙ sym (q .reads) in
+    (e, alike (front (rowsIn s .values) dst) dst (ap (λ (r : Input). r .answer) e) (p .written) (q .written))
+
+prints-once : {ok : Bool} {t dst dst₁ dst₂ : List ℕ} {n₁ n₂ : ℕ} → Prints ok t dst dst₁ n₁ → Prints ok t dst dst₂ n₂ → (n₁ ≡ n₂) × (dst₁ ≡ dst₂)
+prints-once p q = (p .bytes ∙ sym (q .bytes), p .written ∙ sym (q .written))
+
+pub line-text-once : {z : ℤ} {f dst dst₁ dst₂ t t₁ t₂ : List ℕ} {n₁ n₂ : ℕ} → PrintsLine z f dst dst₁ t t₁ n₁ → PrintsLine z f dst dst₂ t t₂ n₂
+    → (n₁ ≡ n₂) × (dst₁ ≡ dst₂)
+line-text-once p q = prints-once (p .text) (q .text)
+
+pub refusal-text-once : (k : ℕ) {dst dst₁ dst₂ : List ℕ} {n₁ n₂ : ℕ} → Prints (leb (length (refusalText k)) (length dst)) (refusalText k) dst dst₁ n₁
+    → Prints (leb (length (refusalText k)) (length dst)) (refusalText k) dst dst₂ n₂ → (n₁ ≡ n₂) × (dst₁ ≡ dst₂)
+refusal-text-once k p q = prints-once p q

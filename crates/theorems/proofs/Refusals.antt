@@ -4,9 +4,10 @@
 --   open-frame-settled, highest-settled, directions-settled, host-settled
 --   list-settled
 --   sums-of-line-settled, sums-of-frame-settled, rose-settled, summary-settled
+--   sums-text-settled, read-input-settled
 -- That a call ends, and touches only what was lent, the prover shows of every function; no statement here has to say it.
 -- Assumes nothing.
-use mathlib.Core.Path.{_≡_, refl, ap, _∙_}
+use mathlib.Core.Path.{_≡_, refl, sym, ap, _∙_}
 use mathlib.Core.Bool.{Bool, true, false, cond}
 use mathlib.Core.List.{List, [], _∷_}
 use Prim.Native.Nat.{ℕ, _+_, _*_, _^_}
@@ -37,6 +38,9 @@ use Rattle.sizes.specs.Frame.{frameRules, SumsFrame}
 use Rattle.sizes.specs.Rose.{roseRules, darkRose, Roses}
 use Rattle.sizes.specs.declared.summary.Summary.{Summary}
 use Rattle.sizes.specs.Summary.{summaryRules, refusedBy, summaryOf}
+use Rattle.text.specs.declared.input.Input.{Input}
+use Rattle.text.specs.Inputs.{directionIn, widthIn, heightIn, inputRules, inputOf, ReadsInput}
+use Rattle.text.specs.Sums.{sumsText, textRules, WritesSums}
 use Rattle.theorems.specs.Settled.{Breaks, Settled}
 
 -- ---- the rules of any call
@@ -137,3 +141,19 @@ pub summary-settled : (s : List ℕ) {r : Summary} → r ≡ summaryOf s
     → Settled (summaryRules s) 0 (answer (summaryRules s) 0) (r ≡ refusedBy (answer (summaryRules s) 0 .number))
 unfolding summaryOf
 summary-settled s e = settled _ _ refl refl (λ r. e ∙ after-refused (answer (summaryRules s) 0) _ (refusedBy (answer (summaryRules s) 0 .number)) r)
+
+-- rules 2, 4 and 6
+pub sums-text-settled : {d : ℕ} {s dst dst′ : List ℕ} {a : Answer} → WritesSums d s dst dst′ a
+    → Settled (textRules d s (length dst)) (length (sumsText d s)) a (dst′ ≡ dst)
+sums-text-settled {dst = dst} {a = a} p = settled _ _ refl (p .answers) (λ r. p .written ∙ after-refused a _ dst r)
+
+-- rules 9, 1, 2, 9 and 6; a refused input has no direction, width or height
+pub read-input-settled : {s dst dst′ : List ℕ} {r : Input} → ReadsInput s dst dst′ r
+    → Settled (inputRules s (length dst)) 0 (r .answer) ((dst′ ≡ dst) × (r ≡ record { answer = r .answer; direction = 0; width = 0; height = 0 }))
+read-input-settled {s} {dst} {dst′} {r} p =
+    let a = answer (inputRules s (length dst)) 0 in
+    let e : r .answer ≡ a = ap (λ (r : Input). r .answer) (p .reads) in
+    let blank : Answer → Input = λ (a : Answer). record { answer = a; direction = 0; width = 0; height = 0 } in
+    let none : (a .number ≡ 0 → ⊥) → inputOf s (length dst) ≡ blank a =
+    λ no-work. rw (after-refused a (directionIn s) 0 no-work, after-refused a (widthIn s) 0 no-work, after-refused a (heightIn s) 0 no-work) in
+    settled _ _ refl e (λ no-work. (p .written ∙ after-refused (r .answer) _ dst no-work, p .reads ∙ none (rw e at no-work) ∙ ap blank (sym e)))

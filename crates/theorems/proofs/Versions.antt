@@ -1,11 +1,12 @@
 -- 'Versions to be shown unprovable': on an input that is written out, the contract does not allow the outcome of that version.
 -- That it allows some outcome of every input, the proved code shows.
---   refusing-..                       a call that refuses everything, for each numbered call, the rose and the summary
+--   refusing-..                       a call that refuses everything, for each numbered call, `read_input`, the rose and the summary
 --   line-dark, line-copied, line-unwritten        an opening of a line that is 0 everywhere, that copies its source, that writes no pixel
 --   frame-dark, frame-copied, frame-unwritten     the same of a frame
 --   first-row-only, first-line-only   a frame opening that treats its first line and copies the rest, along and on the diagonal
 --   count-invented, whole-line-only   a listing with an invented count, or with only the whole line
 --   across-for-along, tie-to-last     directions filed under each other's name, or a tie given to the last
+--   leading-zero                      a reading that takes a number with a leading zero
 -- Assumes nothing.
 use mathlib.Core.Path.{_≡_, refl, sym, ap, _∙_}
 use mathlib.Core.Bool.{true}
@@ -13,7 +14,7 @@ use mathlib.Core.List.{List, [], _∷_}
 use Prim.Native.Nat.{ℕ, _-_, _^_}
 use native.Mathlib.Omega.{arith}
 use lib.IntN.{pos}
-use lib.ListN.{getD, replicate}
+use lib.ListN.{getD, drop, replicate}
 use Rattle.lists.specs.Tables as tables
 use Rattle.lists.specs.Extremes as extremes
 use Rattle.lists.specs.Stores.{front}
@@ -46,7 +47,14 @@ use Rattle.sizes.specs.Frame.{SumsFrame}
 use Rattle.sizes.specs.Rose.{darkRose, Roses}
 use Rattle.sizes.specs.declared.summary.Summary.{Summary}
 use Rattle.sizes.specs.Summary.{weighted, summaryOf}
+use Rattle.text.specs.declared.input.Input.{Input}
+use Rattle.text.specs.Decimal.{digits}
+use Rattle.text.specs.Lines.{fieldsText}
+use Rattle.text.specs.Reading as reading
+use Rattle.text.specs.Inputs.{headOf, ReadsInput}
+use Rattle.text.specs.Sums.{sumsText, WritesSums}
 use Rattle.theorems.specs.Marked.{line, s}
+use Rattle.theorems.specs.Texts.{exampleInput}
 
 -- five bytes that a call may write to, and scratch for a line of five pixels
 abbrev nines : List ℕ
@@ -135,6 +143,15 @@ blank = replicate 4 (s 0 0 0 0)
 pub refusing-list : {table′ : List Stretch} {t′ : List ℕ} {a : Answer} → ListsLine line blank table′ spare t′ a → Refused a → ⊥
 unfolding tables.each extremes.least extremes.greatest stretching.levelOf stretching.isStretch stretching.stretchOf stretching.endingAt stretching.stretches
 refusing-list p = answered (p .answers) refl
+
+-- the example of the program sums
+pub refusing-sums-text : {g′ : List ℕ} {a : Answer} → WritesSums 0 (2 ∷ 4 ∷ 3 ∷ 10 ∷ []) spare g′ a → Refused a → ⊥
+unfolding tables.each sumsText fieldsText digits
+refusing-sums-text p = answered (p .answers) refl
+
+pub refusing-read-input : {g′ : List ℕ} {r : Input} → ReadsInput exampleInput nines g′ r → Refused (r .answer) → ⊥
+unfolding headOf reading.numberOn reading.numberOf reading.fieldOf reading.fieldsOf reading.lineOf reading.rowsOf
+refusing-read-input p = answered (ap (λ (r : Input). r .answer) (p .reads)) refl
 
 -- ---- 'an opening that is 0 everywhere, or that copies its source (demand 2); one that writes no pixel (demand 2)', of a line
 
@@ -227,3 +244,12 @@ module _ {rest t′ : List ℕ} {a : Answer} where
       let z : a .number ≡ 0 = ap (λ (a : Answer). a .number) (p .answers) in
       let corner : _≡_ {A = ℕ} 5 3 = p .done z .pixels 0 0 (omega arith) (omega arith) in
       omega (arith, corner)
+
+-- ---- 'Numbers are decimal without leading zero'
+
+-- the example's input with the direction number 00
+pub leading-zero : {g′ : List ℕ} {r : Input} → ReadsInput (68 ∷ 9 ∷ 48 ∷ drop 2 exampleInput) nines g′ r → r .answer .number ≡ 0 → ⊥
+unfolding headOf reading.numberOn reading.numberOf reading.fieldOf reading.fieldsOf reading.lineOf reading.rowsOf
+leading-zero p z =
+    let nine : _≡_ {A = ℕ} 0 9 = sym z ∙ ap (λ (r : Input). r .answer .number) (p .reads) in
+    omega (arith, nine)

@@ -2,6 +2,8 @@
 --   Marked      the marked examples P1 to P12, as one table
 --   Settled     demand 1 of one call
 --   Equation    equation (3), the highest opening and its direction, in facts
+--   Texts       the example of the two programs, byte by byte; an input that is allowed
 pub mod Marked
 pub mod Settled
 pub mod Equation
+pub mod Texts

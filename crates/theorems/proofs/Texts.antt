@@ -1,0 +1,214 @@
+-- The two programs' texts: what the calls of the crate `text` write and read, from their contracts alone.
+--   sums-text-is                         what a done `sums_text` leaves at the front of a destination, and its bytes
+--   line-text-is, line-text-none         what `line_text` writes of a line, and that it changes nothing where it does not
+--   refusal-nine                         what is printed of a refusal
+--   input-given, given-input             `read_input` with room for the pixels takes just the inputs that the document allows, and hands back the frame whose
+--                                        text they are: reading inverts the rendering
+--   example-sums-text, example-sums      the example of the program sums, byte for byte: of its sums, and from its input to its output
+--   example-line-text, example-one-line, example-stretches    the same of the program stretches
+-- That the programs hand their input to these calls, and print what these write, no contract can say; check/programs runs them.
+-- Assumes nothing.
+use mathlib.Core.Path.{_≡_, refl, sym, ap, ap₂, subst, _∙_}
+use mathlib.Core.Bool.{true, false}
+use mathlib.Core.List.{List, [], _∷_, _++_}
+use Prim.Native.Nat.{ℕ, zero, suc, _-_, _*_, _≤_}
+use native.Mathlib.Omega.{arith}
+use lib.IntN.{ℤ, pos}
+use lib.ListN.{length, getD, take, drop}
+use borrow.Author.Tests.{ltb-false, le-ltb, not-false}
+use Rattle.lists.specs.Tables as tables
+use Rattle.lists.specs.Extremes as extremes
+use Rattle.lists.specs.Stores.{front}
+use Rattle.answer.specs.declared.Answer.{Answer}
+use Rattle.answer.specs.Limits.{longest}
+use Rattle.answer.specs.Rules.{answer, done, after, outside}
+use Rattle.answer.proofs.Rules.{after-done, outside-not}
+use Rattle.line.specs.Windows as windows
+use Rattle.frame.specs.Direction.{numberedOf}
+use Rattle.frame.specs.Shape.{shape}
+use Rattle.frame.specs.Lines as lines
+use Rattle.frame.specs.Lines.{lineRead, linesOf, pixels}
+use Rattle.frame.specs.Gathering.{Gathers}
+use Rattle.sizes.specs.Sums.{frameSums}
+use Rattle.sizes.specs.Frame.{SumsFrame}
+use Rattle.text.specs.declared.input.Input.{Input}
+use Rattle.text.specs.Decimal.{digits}
+use Rattle.text.specs.Lines.{fieldsText}
+use Rattle.text.specs.Reading.{Values}
+use Rattle.text.specs.Inputs.{largest, frameText, directionIn, widthIn, heightIn, rowsIn, headOf, inputRules, ReadsInput}
+use Rattle.text.specs.Stretches.{lineReport, refusalText, isPrintable, PrintsLine}
+use Rattle.text.specs.Sums.{sumsText, WritesSums}
+use Rattle.text.proofs.Texts.{sums-example}
+use Rattle.text.proofs.Reports.{line-example}
+use Rattle.text.proofs.Frames.{rows-below, rows-many}
+use Rattle.text.proofs.Inputs.{Within, input-example, head-found, frame-written, accepted-text, text-accepted}
+use Rattle.theorems.specs.Marked.{line}
+use Rattle.theorems.specs.Texts.{exampleInput, exampleStretches, exampleSums, Given}
+use Rattle.theorems.proofs.Refusals.{gather-settled, sums-text-settled, read-input-settled}
+
+-- ---- the sums text
+
+module _ {d : ℕ} {s dst dst′ : List ℕ} {a : Answer} (p : WritesSums d s dst dst′ a) (z : a .number ≡ 0) where
+  -- 'a call writes what the program sums prints, from a direction number and a sums slice, to a destination's front'; it hands back 'its bytes'
+  pub sums-text-is : (dst′ ≡ front (sumsText d s) dst) × (a .figure ≡ length (sumsText d s))
+  sums-text-is =
+      let t = sums-text-settled p in
+      (p .written ∙ after-done a (front (sumsText d s) dst) dst z, ap (λ (a : Answer). a .figure) (t .done-if (t .only-if z)))
+
+-- 'prints for the same input `G`, direction, K; `B`, length, sum for each bin; `T`, rest'
+pub example-sums-text : {dst dst′ : List ℕ} {a : Answer} → WritesSums 0 (2 ∷ 4 ∷ 3 ∷ 10 ∷ []) dst dst′ a → a .number ≡ 0
+    → (dst′ ≡ front exampleSums dst) × (a .figure ≡ length exampleSums)
+example-sums-text {dst} p z =
+    let t = sums-text-is p z in
+    (t .0 ∙ ap (λ (t : List ℕ). front t dst) sums-example, t .1 ∙ ap length sums-example)
+
+-- ---- what is printed of a line and of a refusal
+
+module _ {z : ℤ} {f dst dst′ t t′ : List ℕ} {n : ℕ} (p : PrintsLine z f dst dst′ t t′ n) where
+  -- '`L`, line number, pixel count, then its `Z` lines: start, end, level, base'
+  pub line-text-is : isPrintable (length f) (length t) (length dst) ≡ true → (dst′ ≡ front (lineReport z f) dst) × (n ≡ length (lineReport z f))
+  line-text-is ok = (p .text .written ∙ rw ok, p .text .bytes ∙ rw ok)
+
+  pub line-text-none : isPrintable (length f) (length t) (length dst) ≡ false → (n ≡ 0) × (dst′ ≡ dst) × (t′ ≡ t)
+  line-text-none small = (p .text .bytes ∙ rw small, p .text .written ∙ rw small, p .scratch-kept small)
+
+-- the line 3 5 5 2 4, which is number 0
+pub example-line-text : {dst dst′ t t′ : List ℕ} {n : ℕ} → PrintsLine (pos 0) line dst dst′ t t′ n → isPrintable 5 (length t) (length dst) ≡ true
+    → (dst′ ≡ front exampleStretches dst) × (n ≡ length exampleStretches)
+example-line-text {dst} p ok =
+    let t = line-text-is p ok in
+    (t .0 ∙ ap (λ (t : List ℕ). front t dst) line-example, t .1 ∙ ap length line-example)
+
+-- 'A refusal prints `E` and the number only.'
+pub refusal-nine : refusalText 9 ≡ 69 ∷ 9 ∷ 57 ∷ 10 ∷ []
+unfolding fieldsText digits
+refusal-nine = refl
+
+-- ---- the input
+
+module _ {s dst dst′ : List ℕ} {r : Input} (p : ReadsInput s dst dst′ r) where
+  -- a text that the call takes is one that the document allows, and the text of the frame that is handed back
+  pub input-given : r .answer .number ≡ 0 → (ps : List ℕ) × Given s (r .direction) (r .width) (r .height) ps × (dst′ ≡ front ps dst)
+  input-given z =
+      let a = answer (inputRules s (length dst)) 0 in
+      let k = read-input-settled p .only-if z in
+      let zero-is : a .number ≡ 0 = ap (λ (r : Input). r .answer .number) (sym (p .reads)) ∙ z in
+      let d-is : r .direction ≡ directionIn s = ap (λ (r : Input). r .direction) (p .reads) ∙ after-done a (directionIn s) 0 zero-is in
+      let w-is : r .width ≡ widthIn s = ap (λ (r : Input). r .width) (p .reads) ∙ after-done a (widthIn s) 0 zero-is in
+      let h-is : r .height ≡ heightIn s = ap (λ (r : Input). r .height) (p .reads) ∙ after-done a (heightIn s) 0 zero-is in
+      let found : rowsIn s .found ≡ true = not-false (rowsIn s .found) (k .1 .1 .1 .1 .1 .0) in
+      let given : Given s (directionIn s) (widthIn s) (heightIn s) (rowsIn s .values) =
+      record {
+        is = accepted-text s (length dst) zero-is;
+        size = ltb-false largest (length s) (k .0);
+        numbered = ltb-false 15 (directionIn s) (k .1 .1 .1 .1 .0);
+        wide = outside-not 1 longest (widthIn s) (k .1 .1 .0);
+        high = outside-not 1 longest (heightIn s) (k .1 .1 .1 .0);
+        many = rows-many (heightIn s) (widthIn s) (headOf s .rest) found;
+        dim = rows-below (heightIn s) (widthIn s) (headOf s .rest) found;
+      } in
+      (rowsIn s .values, rw (d-is, w-is, h-is) given, p .written ∙ after-done (r .answer) (front (rowsIn s .values) dst) dst z)
+
+within-all : (most : ℕ) (vs : List ℕ) → ((k : ℕ) → getD vs k 0 ≤ most) → Within most vs
+within-all most [] below = tt
+within-all most (v ∷ vs) below = (below 0, within-all most vs (λ k. below (suc k)))
+
+not-outside : (lo hi n : ℕ) → lo ≤ n → n ≤ hi → outside lo hi n ≡ false
+not-outside lo hi n low high = rw (le-ltb n lo low, le-ltb hi n high)
+
+read-back : (d w h : ℕ) (ps : List ℕ) {dst dst′ : List ℕ} {r : Input} → ReadsInput (frameText d w h ps) dst dst′ r → Given (frameText d w h ps) d w h ps → w * h ≤ length dst
+    → (r ≡ record { answer = done 0; direction = d; width = w; height = h }) × (dst′ ≡ front ps dst)
+read-back d w h ps {dst} {dst′} {r} p g room =
+    let s = frameText d w h ps in
+    let dim = within-all 255 ps (g .dim) in
+    let wide = not-outside 1 longest w (g .wide .0) (g .wide .1) in
+    let high = not-outside 1 longest h (g .high .0) (g .high .1) in
+    let e = text-accepted d w h ps (length dst) (g .numbered) wide high (g .many) dim (g .size) room in
+    let head = head-found d w h ps (omega (arith, g .numbered)) (omega (arith, g .wide .1)) (omega (arith, g .high .1)) in
+    let rows = frame-written d w h ps (omega (arith, g .numbered)) (omega (arith, g .wide .1)) (omega (arith, g .high .1)) (g .many) dim in
+    let handed : Answer → Values → Input =
+    λ (a : Answer) (v : Values). record { answer = a; direction = after a (getD (v .values) 0 0) 0; width = after a (getD (v .values) 1 0) 0; height = after a (getD (v .values) 2 0) 0 } in
+    let is : r ≡ record { answer = done 0; direction = d; width = w; height = h } = p .reads ∙ ap₂ handed e head in
+    let z : r .answer .number ≡ 0 = ap (λ (r : Input). r .answer .number) is in
+    (is, p .written ∙ after-done (r .answer) (front (rowsIn s .values) dst) dst z ∙ ap (λ (v : Values). front (v .values) dst) rows)
+
+module _ {s dst dst′ : List ℕ} {r : Input} {d w h : ℕ} {ps : List ℕ} where
+  -- an input that the document allows is read, given room for its pixels, and the frame is the one whose text it is
+  pub given-input : ReadsInput s dst dst′ r → Given s d w h ps → w * h ≤ length dst
+      → (r ≡ record { answer = done 0; direction = d; width = w; height = h }) × (dst′ ≡ front ps dst)
+  given-input p g room =
+      let q : ReadsInput (frameText d w h ps) dst dst′ r = subst (λ (s : List ℕ). ReadsInput s dst dst′ r) (g .is) p in
+      let k : Given (frameText d w h ps) d w h ps = subst (λ (s : List ℕ). Given s d w h ps) (g .is) g in
+      read-back d w h ps q k room
+
+-- ---- the example of the programs, from their input to their output: the calls that each makes, one after the other
+
+dim-line : (k : ℕ) → getD line k 0 ≤ 255
+dim-line zero = omega arith
+dim-line (suc zero) = omega arith
+dim-line (suc (suc zero)) = omega arith
+dim-line (suc (suc (suc zero))) = omega arith
+dim-line (suc (suc (suc (suc zero)))) = omega arith
+dim-line (suc (suc (suc (suc (suc k))))) = omega arith
+
+example-given : Given exampleInput 0 5 1 line
+example-given =
+    record {
+      is = sym input-example;
+      size = omega arith;
+      numbered = omega arith;
+      wide = (omega arith, omega arith);
+      high = (omega arith, omega arith);
+      many = refl;
+      dim = dim-line;
+    }
+
+example-bins : (rest : List ℕ) → frameSums (line ++ rest) (shape 5 1 5) (numberedOf 0) 3 ≡ 2 ∷ 4 ∷ 3 ∷ 10 ∷ []
+unfolding tables.each extremes.least extremes.greatest extremes.total windows.opened lines.r
+example-bins rest = refl
+
+-- with four entries for the sums: 'K fixed at 3'
+module _ {px px′ sums sums′ t t′ out out′ : List ℕ} {r : Input} {b a : Answer} where
+  pub example-sums : ReadsInput exampleInput px px′ r → 5 ≤ length px → length sums ≡ 4
+      → SumsFrame px′ (shape (r .width) (r .height) (r .width)) (numberedOf (r .direction)) sums sums′ t t′ b → b .number ≡ 0
+      → WritesSums (r .direction) sums′ out out′ a → a .number ≡ 0 → (out′ ≡ front exampleSums out) × (a .figure ≡ length exampleSums)
+  example-sums p room four q y w z =
+      let read = given-input p example-given room in
+      let handed : Input → List ℕ → ℕ → List ℕ =
+      λ (r : Input) (f : List ℕ) (n : ℕ). frameSums f (shape (r .width) (r .height) (r .width)) (numberedOf (r .direction)) (n - 1) in
+      let filled : sums′ ≡ handed r px′ (length sums) = q .written ∙ after-done b (handed r px′ (length sums)) sums y in
+      let bins : sums′ ≡ 2 ∷ 4 ∷ 3 ∷ 10 ∷ [] =
+      filled ∙ ap (λ (n : ℕ). handed r px′ n) four ∙ ap₂ (λ (r : Input) (f : List ℕ). handed r f 4) (read .0) (read .1) ∙ example-bins (drop 5 px) in
+      let writes : WritesSums 0 sums′ out out′ a = subst (λ (r : Input). WritesSums (r .direction) sums′ out out′ a) (read .0) w in
+      example-sums-text (subst (λ (s : List ℕ). WritesSums 0 s out out′ a) bins writes) z
+
+-- the frame of the example has one line, number 0
+pub example-one-line : linesOf (shape 5 1 5) (numberedOf 0) ≡ record { first = pos 0; count = 1 }
+unfolding lines.r
+example-one-line = refl
+
+example-count : length (pixels (shape 5 1 5) (numberedOf 0) (pos 0)) ≡ 5
+unfolding tables.each lines.r
+example-count = refl
+
+example-line : (rest : List ℕ) → lineRead (line ++ rest) (shape 5 1 5) (numberedOf 0) (pos 0) ≡ line
+unfolding tables.each lines.r
+example-line rest = refl
+
+module _ {px px′ buf buf′ out out′ t t′ : List ℕ} {r : Input} {b : Answer} {n : ℕ} where
+  pub example-stretches : ReadsInput exampleInput px px′ r → 5 ≤ length px
+      → Gathers px′ (shape (r .width) (r .height) (r .width)) (numberedOf (r .direction)) (pos 0) buf buf′ b → b .number ≡ 0
+      → PrintsLine (pos 0) (take (b .figure) buf′) out out′ t t′ n → isPrintable 5 (length t) (length out) ≡ true
+      → (out′ ≡ front exampleStretches out) × (n ≡ length exampleStretches)
+  example-stretches p room q y w ok =
+      let read = given-input p example-given room in
+      let of-frame : Gathers px′ (shape 5 1 5) (numberedOf 0) (pos 0) buf buf′ b =
+      subst (λ (r : Input). Gathers px′ (shape (r .width) (r .height) (r .width)) (numberedOf (r .direction)) (pos 0) buf buf′ b) (read .0) q in
+      let g : Gathers (line ++ drop 5 px) (shape 5 1 5) (numberedOf 0) (pos 0) buf buf′ b =
+      subst (λ (f : List ℕ). Gathers f (shape 5 1 5) (numberedOf 0) (pos 0) buf buf′ b) (read .1) of-frame in
+      let s = gather-settled g in
+      let five : b .figure ≡ 5 = ap (λ (a : Answer). a .figure) (s .done-if (s .only-if y)) ∙ example-count in
+      let stored : buf′ ≡ front line buf =
+      g .written ∙ after-done b (front (lineRead (line ++ drop 5 px) (shape 5 1 5) (numberedOf 0) (pos 0)) buf) buf y ∙ ap (λ (l : List ℕ). front l buf) (example-line (drop 5 px)) in
+      let taken : take (b .figure) buf′ ≡ line = ap₂ (λ (n : ℕ) (l : List ℕ). take n l) five stored in
+      example-line-text (subst (λ (l : List ℕ). PrintsLine (pos 0) l out out′ t t′ n) taken w) ok
