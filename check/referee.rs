@@ -19,6 +19,10 @@ mod draw;
 mod marked;
 #[path = "referee/refusals.rs"]
 mod refusals;
+#[path = "referee/text_cases.rs"]
+mod text_cases;
+#[path = "referee/texts.rs"]
+mod texts;
 
 use std::io::Write;
 

@@ -4,9 +4,10 @@ use crate::cases::*;
 use crate::definitions::*;
 use crate::draw::{self, check, check_bytes, check_sums};
 use crate::refusals::{self, Refusal};
+use crate::texts::{read, sums_text};
 
 /// The sizes of the arrays in crates/vectors, which no case outgrows but by its guard.
-const BYTES: usize = 8704;
+const BYTES: usize = 131072;
 const SUMS: usize = 4224;
 const SCRATCH: usize = 49152;
 
@@ -34,11 +35,20 @@ fn guarded(n: u64, room: usize) -> usize {
     ((n + GUARD) as usize).min(room)
 }
 
+/// An input is the text that the case brings along; any other source is of the case's kind.
+fn source(c: &Case) -> Vec<u8> {
+    match c.call {
+        READ_INPUT => draw::text(&c.given, c.src as usize, c.height as usize),
+        _ => draw::bytes(c.src as usize, c.kind, c.seed),
+    }
+}
+
 fn lend(c: &Case) -> Lent {
+    let entries = if c.call == SUMS_TEXT { c.src } else { c.dst };
     Lent {
-        src: draw::bytes(c.src as usize, c.kind, c.seed),
+        src: source(c),
         dst: draw::bytes(guarded(c.dst, BYTES), 0, c.seed + 1),
-        sums: draw::sums(guarded(c.dst, SUMS), c.kind, c.seed + 2),
+        sums: draw::sums(guarded(entries, SUMS), c.kind, c.seed + 2),
         scratch: draw::bytes(guarded(c.scratch, SCRATCH), 0, c.seed + 3),
     }
 }
@@ -190,6 +200,30 @@ fn summarized(c: &Case, lent: &Lent) -> Got {
     Got { number, first: mean.to_bits(), second: share.to_bits(), ..done(0) }
 }
 
+/// 'a call writes what the program sums prints, from a direction number and a sums slice, to a destination's front'; done, it hands back 'its bytes'.
+fn sums_printed(c: &Case, lent: &mut Lent) -> Got {
+    let sums = &lent.sums[..c.src as usize];
+    let text = if sums.is_empty() { String::new() } else { sums_text(c.length, sums) };
+    if let Some(refusal) = refusals::sums_text(c.length, c.src, text.len() as u64, c.dst) {
+        return refused(refusal);
+    }
+    write(text.as_bytes(), &mut lent.dst);
+    done(text.len())
+}
+
+/// The frame of an input: direction, the checksum of width and height, and its pixels at the destination's front, for which there must be room.
+fn input_read(c: &Case, lent: &mut Lent) -> Got {
+    let no_sides = check(1, [0, 0].into_iter());
+    match read(&lent.src) {
+        Err(number) => Got { second: no_sides, ..refused((number, 0)) },
+        Ok(frame) if c.dst < frame.width * frame.height => Got { second: no_sides, ..refused((6, frame.width * frame.height)) },
+        Ok(frame) => {
+            write(&frame.pixels, &mut lent.dst);
+            Got { first: frame.direction, second: check(1, [frame.width, frame.height].into_iter()), ..done(0) }
+        }
+    }
+}
+
 fn called(c: &Case, lent: &mut Lent) -> Got {
     match c.call {
         ERODE | DILATE | OPEN_LINE => on_line(c, lent),
@@ -202,6 +236,8 @@ fn called(c: &Case, lent: &mut Lent) -> Got {
         OPEN_FRAME | HIGHEST | DIRECTION_FRAME => frame_opened(c, lent),
         SUMS_OF_LINE | SUMS_OF_FRAME => summed(c, lent),
         ROSE => rose_shown(c, lent),
+        SUMS_TEXT => sums_printed(c, lent),
+        READ_INPUT => input_read(c, lent),
         _ => summarized(c, lent),
     }
 }

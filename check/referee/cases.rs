@@ -1,8 +1,9 @@
 // The cases of crates/vectors: which calls are made, on buffers of which sizes, and with which arguments.
-// A case is a line of thirteen numbers; what a call does not take is 0. See `families` for what is covered and why.
+// A case is a line of thirteen numbers; what a call does not take is 0. An input has the bytes of its text behind them. See `families` for what is covered and why.
 
 use crate::definitions::{lines, stretches as stretches_of, Direction, Shape, NUMBERED};
 use crate::draw::Draws;
+use crate::text_cases::{inputs_edited, inputs_large, inputs_numbers, inputs_refused, inputs_whole, sums_texts};
 
 /// The calls by their numbers in the case file.
 pub const ERODE: u64 = 1;
@@ -25,13 +26,16 @@ pub const SUMS_OF_LINE: u64 = 30;
 pub const SUMS_OF_FRAME: u64 = 31;
 pub const ROSE: u64 = 32;
 pub const SUMMARY: u64 = 33;
+pub const SUMS_TEXT: u64 = 40;
+pub const READ_INPUT: u64 = 41;
 
 /// The numbers of the calls, with the names that the report gives them.
-pub const CALLS: [(u64, &str); 19] = [
+pub const CALLS: [(u64, &str); 21] = [
     (ERODE, "erosion"), (DILATE, "dilation"), (OPEN_LINE, "opening of a line"), (STRETCHES, "stretches"), (COUNT, "count of stretches"),
     (ROW, "row"), (LINES_OF, "lines of a frame"), (DIRECTION, "direction: range, shallow, turned"), (NUMBER, "numbered direction"), (SHAPE, "shape"),
     (GATHER, "gathering"), (SCATTER, "scattering"), (OPEN_FRAME, "frame opening"), (HIGHEST, "highest"), (DIRECTION_FRAME, "direction frame"),
     (SUMS_OF_LINE, "sums of a line"), (SUMS_OF_FRAME, "sums of a frame"), (ROSE, "rose and its refusal"), (SUMMARY, "summary"),
+    (SUMS_TEXT, "sums text"), (READ_INPUT, "input"),
 ];
 
 /// Pairs that have no number: long and short ones in every quarter, on the diagonals and on the axes.
@@ -42,8 +46,8 @@ const ODD: [(i64, i64); 14] = [
 /// Pairs that are no direction.
 const REFUSED: [(i64, i64); 7] = [(0, 0), (256, 1), (1, -256), (-256, 0), (0, 256), (4096, -4096), (-300, 255)];
 
-/// A case as the file has it.
-#[derive(Clone, Copy, Default)]
+/// A case as the file has it; `given` is the text of an input, of which the case has `width` bytes, and each of the others is the one `height` before it.
+#[derive(Clone, Default)]
 pub struct Case {
     pub call: u64,
     pub kind: u64,
@@ -58,6 +62,7 @@ pub struct Case {
     pub src: u64,
     pub dst: u64,
     pub scratch: u64,
+    pub given: Vec<u8>,
 }
 
 impl Case {
@@ -73,7 +78,8 @@ impl Case {
     pub fn text(&self) -> String {
         let sizes = [self.length, self.src, self.dst, self.scratch].map(|n| (n as i64).to_string()).join(" ");
         let shape = [self.width, self.height, self.stride].map(|n| (n as i64).to_string()).join(" ");
-        format!("{} {} {} {} {} {} {} {}", self.call, self.kind, self.seed, shape, self.p, self.q, self.line, sizes)
+        let given: String = self.given.iter().map(|byte| format!(" {byte}")).collect();
+        format!("{} {} {} {} {} {} {} {}{given}", self.call, self.kind, self.seed, shape, self.p, self.q, self.line, sizes)
     }
 
     fn at(mut self, (p, q): (i64, i64)) -> Case {
@@ -85,11 +91,11 @@ impl Case {
 /// The cases so far, and the draws that make them up.
 pub struct Cases {
     pub list: Vec<Case>,
-    draws: Draws,
+    pub draws: Draws,
 }
 
 impl Cases {
-    fn add(&mut self, case: Case) {
+    pub fn add(&mut self, case: Case) {
         let seed = self.list.len() as u64 * 7 + 1;
         self.list.push(Case { seed, ..case });
     }
@@ -308,7 +314,7 @@ fn lines_of_large(cases: &mut Cases) {
             for call in [GATHER, SCATTER, LINES_OF] {
                 let fits = Case { line, ..large(call, *sides, 0).at(pair) };
                 for (less_src, less_dst) in [(0, 0), (1, 0), (0, 1)] {
-                    cases.add(Case { src: fits.src - less_src, dst: fits.dst - less_dst, ..fits });
+                    cases.add(Case { src: fits.src - less_src, dst: fits.dst - less_dst, ..fits.clone() });
                 }
             }
         }
@@ -394,10 +400,13 @@ fn fit_table(cases: &mut Cases, n: u64, kind: u64) {
     }
 }
 
-/// All cases, the small ones first. The sums text and the programs have a place of their own: a family here, a call number above 40, its answer in `answers`.
+/// All cases, the small ones first, then those of the texts.
 pub fn families() -> Vec<Case> {
     let mut cases = Cases { list: Vec::new(), draws: Draws(20_250_607) };
     for family in [lines_small, stretches_and_rows, lookups, gathers, openings, sums, summaries, frames_refused, lines_refused, frames_strided, lines_long, lines_of_large, frames_large] {
+        family(&mut cases);
+    }
+    for family in [sums_texts, inputs_whole, inputs_edited, inputs_numbers, inputs_refused, inputs_large] {
         family(&mut cases);
     }
     cases.list

@@ -37,7 +37,8 @@ pub fn bytes(n: usize, kind: u64, seed: u64) -> Vec<u8> {
         .collect()
 }
 
-/// An entry of a sums slice: below a thousand, none, below 2^53, below 2^43, none or one, about 2^52, about a third of 2^53, or any number at all.
+/// An entry of a sums slice: below a thousand, none, below 2^53, below 2^43, none or one, about 2^52, about a third of 2^53, any number at all, a power of ten, one less than a power of ten,
+/// about 2^53, or about the largest.
 fn sum(kind: u64, drawn: u64) -> u64 {
     match kind {
         0 => drawn % 1000,
@@ -47,6 +48,10 @@ fn sum(kind: u64, drawn: u64) -> u64 {
         4 => drawn % 2,
         5 => (1 << 52) + drawn % 2,
         6 => (1 << 53) / 3 + drawn % 2,
+        8 => 10u64.pow((drawn % 20) as u32),
+        9 => 10u64.pow((drawn % 20) as u32) - 1,
+        10 => (1 << 53) - 1 + drawn % 3,
+        11 => u64::MAX - drawn % 2,
         _ => drawn,
     }
 }
@@ -60,6 +65,15 @@ pub fn sums(n: usize, kind: u64, seed: u64) -> Vec<u64> {
             sum(kind, s)
         })
         .collect()
+}
+
+/// A text of n bytes that starts as given, and then goes on as it ends: each byte is the one `period` before it.
+pub fn text(given: &[u8], n: usize, period: usize) -> Vec<u8> {
+    let mut text = given.to_vec();
+    while text.len() < n {
+        text.push(text[text.len() - period]);
+    }
+    text[..n].to_vec()
 }
 
 /// The checksum of more numbers, after that of others.

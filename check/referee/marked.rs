@@ -1,6 +1,7 @@
 // The marked examples of the specification, P1 to P12, and those of the two programs: the referee holds its own definitions to them before it writes anything.
 
 use crate::definitions::{dilated, eroded, lines, opened, stretches, sums, Direction, Shape};
+use crate::texts::{input_text, read, sums_text, Input};
 
 const LINE: [u8; 5] = [3, 5, 5, 2, 4];
 
@@ -28,7 +29,14 @@ fn lines_hold() -> bool {
     down[&-1] == [(1, 0), (2, 0), (3, 1)] && down[&-2] == [(3, 0)] && up[&1] == [(0, 1), (1, 0), (2, 0)]
 }
 
-/// All of them, and what the program sums prints of the line.
+/// The input of the two programs, and what the program sums prints of it.
+fn texts_hold() -> bool {
+    let text = "D\t0\nF\t5\t1\nR\t3\t5\t5\t2\t4\n";
+    let frame = Input { direction: 0, width: 5, height: 1, pixels: LINE.to_vec() };
+    input_text(&frame) == text && read(text.as_bytes()) == Ok(frame) && sums_text(0, &sums(&[LINE.to_vec()], 3)) == "G\t0\t3\nB\t1\t2\nB\t2\t4\nB\t3\t3\nT\t10\n"
+}
+
+/// All of them.
 pub fn hold() -> bool {
-    windows_hold() && stretches_hold() && lines_hold() && sums(&[LINE.to_vec()], 3) == [2, 4, 3, 10]
+    windows_hold() && stretches_hold() && lines_hold() && sums(&[LINE.to_vec()], 3) == [2, 4, 3, 10] && texts_hold()
 }

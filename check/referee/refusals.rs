@@ -98,6 +98,11 @@ pub fn sums_of_frame(shape: Shape, d: Direction, sums: u64, src: u64, scratch: u
         .or_else(|| buffers(shape, src, u64::MAX, scratch, 0))
 }
 
+/// 'direction number above 15'; 'a destination too short, or the sums text's'
+pub fn sums_text(direction: u64, sums: u64, bytes: u64, dst: u64) -> Option<Refusal> {
+    first_broken(&[(direction > 15, 2, 0), (outside(sums, 2, 4097), 4, 0), (dst < bytes, 6, bytes)])
+}
+
 pub fn rose(shape: Shape, src: u64, scratch: u64) -> Option<Refusal> {
     first_broken(&[(!shape.is_frame(), 1, 0)]).or_else(|| buffers(shape, src, u64::MAX, scratch, 0))
 }

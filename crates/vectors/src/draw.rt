@@ -56,7 +56,47 @@ pub(crate) fn fill(buf: &mut [u8], n: usize, kind: u64, seed: u64) {
     }
 }
 
-// An entry of a sums slice: below a thousand, none, below 2^53, below 2^43, none or one, about 2^52, about a third of 2^53, or any number at all.
+// Fills the bytes from `from` to `to`, each with the one `period` before it.
+pub(crate) fn repeat(buf: &mut [u8], from: usize, to: usize, period: usize) {
+    let end = least(to, buf.len());
+    let mut i = from;
+    while i < end {
+        let back = least(period, i);
+        buf[i] = buf[i - back];
+        i += 1;
+    }
+}
+
+// The powers of ten that a sum can be.
+const POWERS: [u64; 20] = [
+    1,
+    10,
+    100,
+    1000,
+    10000,
+    100000,
+    1000000,
+    10000000,
+    100000000,
+    1000000000,
+    10000000000,
+    100000000000,
+    1000000000000,
+    10000000000000,
+    100000000000000,
+    1000000000000000,
+    10000000000000000,
+    100000000000000000,
+    1000000000000000000,
+    10000000000000000000,
+];
+
+fn power(drawn: u64) -> u64 {
+    POWERS[(drawn % 20) as usize]
+}
+
+// An entry of a sums slice: below a thousand, none, below 2^53, below 2^43, none or one, about 2^52, about a third of 2^53, any number at all, a power of ten, one less than a power of ten,
+// about 2^53, or about the largest.
 fn sum(kind: u64, drawn: u64) -> u64 {
     match kind {
         0 => drawn % 1000,
@@ -66,6 +106,10 @@ fn sum(kind: u64, drawn: u64) -> u64 {
         4 => drawn % 2,
         5 => 4503599627370496 + drawn % 2,
         6 => 3002399751580330 + drawn % 2,
+        8 => power(drawn),
+        9 => std::num::wrapping_sub_u64(power(drawn), 1),
+        10 => 9007199254740991 + drawn % 3,
+        11 => 18446744073709551615 - drawn % 2,
         _ => drawn,
     }
 }

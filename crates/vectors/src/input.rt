@@ -1,4 +1,5 @@
 // The case file: a line a case, of decimal numbers parted by one byte each, with a minus sign where a number is below 0.
+use crate::draw::least;
 
 // How many numbers a case has.
 const FIELDS: usize = 13;
@@ -97,6 +98,20 @@ pub(crate) fn numbers(text: &[u8], from: usize, fields: &mut [u64; 13]) -> usize
         let n = number(text, at);
         fields[i] = n.bits;
         at = n.next;
+        i += 1;
+    }
+    at
+}
+
+// Reads n bytes that a case has behind its numbers to the front of a buffer, and hands back where the next case starts.
+pub(crate) fn bytes(text: &[u8], from: usize, n: usize, buf: &mut [u8]) -> usize {
+    let end = least(n, buf.len());
+    let mut at = from;
+    let mut i = 0;
+    while i < end {
+        let byte = number(text, at);
+        buf[i] = (byte.bits % 256) as u8;
+        at = byte.next;
         i += 1;
     }
     at

@@ -5,6 +5,7 @@ use draw::check_sums;
 use draw::fill;
 use draw::fill_sums;
 use draw::least;
+use draw::repeat;
 use got::Got;
 use input::Case;
 use libc::STDIN_FILENO;
@@ -15,6 +16,7 @@ mod frames;
 mod got;
 mod input;
 mod lines;
+mod texts;
 mod totals;
 
 // The most cases of a file.
@@ -29,11 +31,30 @@ fn shifted(seed: u64, by: u64) -> u64 {
     std::num::wrapping_add_u64(seed, by)
 }
 
-// Source and sums are of the case's kind; destination and scratch hold noise.
+// How many bytes of its source a case brings along: only a text does.
+fn brought(c: Case) -> usize {
+    if c.call == 41 { c.width } else { 0 }
+}
+
+// How many sums a case lends: the sums text has a destination beside them.
+fn entries(c: Case) -> usize {
+    if c.call == 40 { c.src } else { c.dst }
+}
+
+// A text goes on as it ends; any other source is of the case's kind.
+fn prepare_source(c: Case, src: &mut [u8]) {
+    if c.call == 41 {
+        repeat(src, c.width, c.src, c.height);
+    } else {
+        fill(src, c.src, c.kind, c.seed);
+    }
+}
+
+// Source and sums are what the case says; destination and scratch hold noise.
 fn prepare(c: Case, src: &mut [u8], dst: &mut [u8], sums: &mut [u64], scratch: &mut [u8]) {
-    fill(src, c.src, c.kind, c.seed);
+    prepare_source(c, src);
     fill(dst, guarded(c.dst), 0, shifted(c.seed, 1));
-    fill_sums(sums, guarded(c.dst), c.kind, shifted(c.seed, 2));
+    fill_sums(sums, guarded(entries(c)), c.kind, shifted(c.seed, 2));
     fill(scratch, guarded(c.scratch), 0, shifted(c.seed, 3));
 }
 
@@ -58,6 +79,13 @@ fn call_sums(c: Case, src: &[u8], sums: &mut [u64], scratch: &mut [u8]) -> Got {
     totals::call(c, &src[..n], &mut sums[..k], &mut scratch[..t])
 }
 
+fn call_text(c: Case, src: &[u8], dst: &mut [u8], sums: &[u64]) -> Got {
+    let n = least(c.src, src.len());
+    let d = least(c.dst, dst.len());
+    let k = least(c.src, sums.len());
+    texts::call(c, &src[..n], &mut dst[..d], &sums[..k])
+}
+
 fn call(c: Case, src: &[u8], dst: &mut [u8], sums: &mut [u64], scratch: &mut [u8]) -> Got {
     if c.call < 10 {
         return call_line(c, src, dst, scratch);
@@ -65,14 +93,17 @@ fn call(c: Case, src: &[u8], dst: &mut [u8], sums: &mut [u64], scratch: &mut [u8
     if c.call < 30 {
         return call_frame(c, src, dst, scratch);
     }
-    call_sums(c, src, sums, scratch)
+    if c.call < 40 {
+        return call_sums(c, src, sums, scratch);
+    }
+    call_text(c, src, dst, sums)
 }
 
 // The checksum of all that was lent to be written, with the bytes behind. What a done call leaves in its scratch is not settled.
 fn check_left(c: Case, done: bool, dst: &[u8], sums: &[u64], scratch: &[u8]) -> u64 {
     let from = if done { c.scratch } else { 0 };
     let first = check_bytes(1, dst, 0, guarded(c.dst));
-    let second = check_sums(first, sums, guarded(c.dst));
+    let second = check_sums(first, sums, guarded(entries(c)));
     check_bytes(second, scratch, from, guarded(c.scratch))
 }
 
@@ -120,14 +151,16 @@ fn run(text: &[u8], src: &mut [u8], dst: &mut [u8], sums: &mut [u64], scratch: &
         }
         at = input::numbers(text, at, &mut fields);
         k += 1;
-        run_case(k as u64, input::case_of(&fields), src, dst, sums, scratch);
+        let c = input::case_of(&fields);
+        at = input::bytes(text, at, brought(c), src);
+        run_case(k as u64, c, src, dst, sums, scratch);
     }
 }
 
-// Lends the buffers: room for frames of two rows of 4,096 pixels, and for a direction frame's scratch.
+// Lends the buffers: room for the longest input and one byte more, for the longest sums text, and for a direction frame's scratch.
 fn lend(text: &[u8]) {
-    let mut src = [0u8; 8704];
-    let mut dst = [0u8; 8704];
+    let mut src = [0u8; 65664];
+    let mut dst = [0u8; 131072];
     let mut sums = [0u64; 4224];
     let mut scratch = [0u8; 49152];
     run(text, &mut src, &mut dst, &mut sums, &mut scratch);

@@ -24,6 +24,12 @@ add-k c = search needs
 case-of-requires : tie.Need-case-of-requires Inv-loop μ-loop
 case-of-requires c κs = search needs
 
+brought-requires : tie.Need-brought-requires Inv-loop μ-loop
+brought-requires c κs = search needs
+
+bytes-requires : tie.Need-bytes-requires Inv-loop μ-loop
+bytes-requires c κs = search needs
+
 run-case-requires : tie.Need-run-case-requires Inv-loop μ-loop
 run-case-requires c κs = search needs
 
@@ -73,6 +79,8 @@ run-spec =
     numbers-requires
     add-k
     case-of-requires
+    brought-requires
+    bytes-requires
     run-case-requires
     loop-less
     loop-again
