@@ -1,4 +1,4 @@
-// Strips of eight neighbouring lines of a frame of 8-bit pixels, opened in scratch and put back: the engine of the frame calls. Its calls are total.
+// Strips of eight neighbouring lines of a frame of 8-bit pixels, opened in scratch and put back: the engine of the frame calls that combine with their destination. Its calls are total.
 mod claim;
 mod eight;
 mod engine;

@@ -1,5 +1,5 @@
-// A strip of eight neighbouring lines: laid out side by side, opened, put back. It is the strips that make a slanted line as cheap as a row: a line
-// alone would touch a new cache line at every pixel.
+// A strip of eight neighbouring lines: laid out side by side, opened, put back. Eight at a time, since a line alone would touch a new cache line at every
+// pixel.
 use crate::eight::brighter_of;
 use crate::eight::eight;
 use crate::eight::put_eight;
