@@ -1,50 +1,27 @@
--- A pass over a part of a buffer, put back into the buffer.
---   darkened-part, brightened-part, cleared-part
+-- A pass over bytes (crate passes), as the passes of windows take it.
+--   narrowed-by, widened-by    a pass over the front of a buffer, and over what follows it
+--   cleared-by                 zeros up to the end
 -- Assumes nothing.
-use mathlib.Core.Path.{_≡_, refl, ap, ap₂, _∙_}
-use mathlib.Core.List.{List, _++_}
-use Prim.Native.Nat.{ℕ, _+_, _-_, _≤_, _<_, min, max}
+use mathlib.Core.Path.{_≡_, ap}
+use mathlib.Core.List.{List}
+use mathlib.Core.Logic.{inl}
+use Prim.Native.Nat.{ℕ, _+_, _-_, _≤_, min, max, zero-le}
 use native.Mathlib.Omega.{arith}
-use lib.ListN.{length, getD, take, drop}
-use lib.Seq.{getD-take, getD-drop}
+use lib.ListN.{length, getD}
 use Rattle.lists.specs.Stores.{Filled}
-use Rattle.lists.proofs.Stores.{filled-start, filled-end}
-use Rattle.lists.proofs.Parts.{part-filled}
+use Rattle.lists.proofs.Stores.{filled-as, filled-end}
+use Rattle.passes.specs.Passes.{Darkens, Brightens, Clears}
 use Rattle.line.specs.Passes.{narrowed, widened}
-use Rattle.line.specs.Parts.{Darkens, Brightens, Clears}
 
--- the part of n bytes from `at` on is p now
-module _ (d p : List ℕ) (at n : ℕ) (fit : at + n ≤ length d) (size : length p ≡ n) where
-  part : (j x : ℕ) → j < n → at + j ≡ x → getD (take n (drop at d)) j 0 ≡ getD d x 0
-  part j x h e = getD-take n (drop at d) j 0 h ∙ getD-drop at d j 0 ∙ ap (λ (k : ℕ). getD d k 0) e
+pub narrowed-by : {b a : List ℕ} (d m : ℕ) → Darkens 0 d m b a → d + m ≤ length b → Filled b a 0 m (narrowed b d)
+narrowed-by {b} {a} d m p fits =
+    filled-as (filled-end (p .done (omega arith, fits, inl zero-le)) (omega arith)) (narrowed b d)
+    (λ k l h. let there : d + (k - 0) ≡ k + d = omega arith in ap (λ (x : ℕ). min (getD b k 0) (getD b x 0)) there)
 
-  pub darkened-part : (count dist : ℕ) → n ≡ dist + count → Filled (take n (drop at d)) p 0 count (narrowed (take n (drop at d)) dist)
-      → Darkens at count dist d (take at d ++ (p ++ drop n (drop at d)))
-  darkened-part count dist e f =
-      record {
-        done = λ room.
-            filled-start
-            (part-filled at n f size fit (omega arith) (narrowed d dist)
-            (λ k l h. ap₂ min (part k (at + k) (omega arith) refl) (part (k + dist) (at + k + dist) (omega arith) (omega arith))))
-            (omega arith);
-        none = λ out. absurd (out (omega arith));
-      }
+pub widened-by : {b a : List ℕ} (d m : ℕ) {hi : ℕ} → Brightens d 0 m b a → d + m ≡ hi → hi ≤ length b → Filled b a d hi (widened b d)
+widened-by {b} {a} d m p end fits =
+    filled-as (filled-end (p .done (omega arith, omega arith, inl zero-le)) end) (widened b d)
+    (λ k l h. let there : 0 + (k - d) ≡ k - d = omega arith in ap (λ (x : ℕ). max (getD b k 0) (getD b x 0)) there)
 
-  pub brightened-part : (count dist hi : ℕ) → n ≡ dist + count → Filled (take n (drop at d)) p dist hi (widened (take n (drop at d)) dist) → hi ≡ n
-      → Brightens at count dist d (take at d ++ (p ++ drop n (drop at d)))
-  brightened-part count dist hi e f end =
-      record {
-        done = λ room.
-            filled-end
-            (part-filled at n f size fit (omega arith) (widened d dist)
-            (λ k l h. ap₂ max (part k (at + k) (omega arith) refl) (part (k - dist) (at + k - dist) (omega arith) (omega arith))))
-            (omega arith);
-        none = λ out. absurd (out (omega arith));
-      }
-
-  pub cleared-part : (count hi : ℕ) → n ≡ count → Filled (take n (drop at d)) p 0 hi (λ (k : ℕ). 0) → hi ≡ n → Clears at count d (take at d ++ (p ++ drop n (drop at d)))
-  cleared-part count hi e f end =
-      record {
-        done = λ room. filled-start (filled-end (part-filled at n f size fit (omega arith) (λ (k : ℕ). 0) (λ k l h. refl)) (omega arith)) (omega arith);
-        none = λ out. absurd (out (omega arith));
-      }
+pub cleared-by : {b a : List ℕ} (at n : ℕ) {hi : ℕ} → Clears at n b a → at + n ≡ hi → hi ≤ length b → Filled b a at hi (λ (k : ℕ). 0)
+cleared-by at n p end fits = filled-end (p .done (omega arith)) end

@@ -5,7 +5,7 @@
 --   lanes-dilate-one, -more, -end                   the passes of a dilation, for each line
 --   lanes-short, lanes-opened                       the opening of each line
 --   front-opened, front-kept                        what the engine leaves of a longer buffer
---   lanes-fit, lanes-in, lanes-out                  the products that the code forms
+--   lanes-fit, lanes-split, lanes-in, lanes-out     the products that the code forms
 -- Assumes nothing.
 use mathlib.Core.Path.{_≡_, refl, sym, ap, ap₂, _∙_, subst}
 use mathlib.Core.List.{List, _++_}
@@ -210,6 +210,9 @@ front-kept c n L b empty =
 
 pub lanes-fit : (c n w s : ℕ) → 1 ≤ w → w + s ≤ n → c * (n - (w + s) + 1) + c * s ≤ c * n
 lanes-fit c n w s some fit = rw (← mul-add c (n - (w + s) + 1) s) (mul-le-mul-left c (omega arith))
+
+pub lanes-split : (c n s : ℕ) → s ≤ n → c * s + c * (n - s) ≡ c * n
+lanes-split c n s h = let whole : s + (n - s) ≡ n = omega arith in sym (mul-add c s (n - s)) ∙ ap (λ (m : ℕ). c * m) whole
 
 -- c lines of n pixels in a buffer of m, by the quotient
 pub lanes-in : (c n m : ℕ) → 1 ≤ n → c ≤ m / n → c * n ≤ m

@@ -2,7 +2,6 @@
 --   Windows                       windows of a line; its erosion, dilation and opening
 --   Erosion, Dilation, Opening    the three calls: their rules, and what they leave
 --   Lanes                         lines that stand interleaved in one buffer: the engine
---   Parts                         the passes over a part of a buffer, for engines in other crates
 --   Passes                        what the private passes of the engine keep to
 pub mod Windows
 pub mod Erosion
@@ -10,4 +9,3 @@ pub mod Dilation
 pub mod Opening
 pub mod Lanes
 pub mod Passes
-pub mod Parts

@@ -5,7 +5,7 @@
 --   reopened f L w x      the greatest of these, for windows of L, at the w places up to x
 --   Erodes, Dilates       a list begins with the values of an erosion, or of a dilation
 --   ErodesLanes, DilatesLanes    the same of every line of a buffer
--- Laws: line/proofs/Passes, Blocks, Strides, Rims.
+-- Laws: line/proofs/Passes, Parts, Strides, Rims.
 use mathlib.Core.Path.{_≡_}
 use mathlib.Core.Bool.{cond}
 use mathlib.Core.List.{List}

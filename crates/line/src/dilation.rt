@@ -1,6 +1,5 @@
 // The dilation of a line.
 use crate::lanes::dilate_lanes;
-use crate::pass;
 use answer::Answer;
 use answer::LONGEST;
 use answer::is_outside;
@@ -38,8 +37,8 @@ fn dilated_into(src: &[u8], length: usize, dst: &mut [u8])
 {
     let m = src.len();
     let count = dst.len();
-    pass::copy(src, m, dst);
-    pass::clear(dst, m);
+    passes::copy(src, m, dst);
+    passes::blacken(dst, m, count - m);
     dilate_lanes(dst, 1, count, length);
 }
 

@@ -1,6 +1,5 @@
 // The erosion of a line.
 use crate::lanes::erode_lanes;
-use crate::pass;
 use answer::Answer;
 use answer::LONGEST;
 use answer::is_outside;
@@ -47,9 +46,9 @@ fn eroded_by(src: &[u8], length: usize, line: &mut [u8], dst: &mut [u8])
 {
     let n = src.len();
     let count = dst.len();
-    pass::copy(src, n, line);
+    passes::copy(src, n, line);
     erode_lanes(line, 1, n, length);
-    pass::copy(line, count, dst);
+    passes::copy(line, count, dst);
 }
 
 // The same by way of an array: the passes go over the whole line, and dst is shorter.

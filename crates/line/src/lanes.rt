@@ -1,6 +1,5 @@
 // Lines that stand interleaved in one buffer, eroded, dilated and opened where they stand: byte lanes·t + j is pixel t of line j, so one line is the buffer itself.
 // The windows' length doubles from one pass to the next, up to `length`: about 2·log2(length) passes in all, whatever the picture.
-use crate::pass;
 ghost use mathlib.Core.Path.{_≡_};
 ghost use Prim.Native.Nat.{_-_, _*_, _≤_, min};
 ghost use lib.ListN;
@@ -27,7 +26,7 @@ pub(crate) fn erode_lanes(buf: &mut [u8], lanes: usize, pixels: usize, length: u
     while w < length {
         let s = growth(w, length);
         w += s;
-        pass::narrow(buf, lanes * (pixels - w + 1), lanes * s);
+        passes::darken(buf, 0, lanes * s, lanes * (pixels - w + 1));
     }
 }
 
@@ -40,7 +39,7 @@ pub(crate) fn dilate_lanes(buf: &mut [u8], lanes: usize, pixels: usize, length: 
     while w < length {
         let s = growth(w, length);
         w += s;
-        pass::widen(buf, lanes * s);
+        passes::brighten(buf, lanes * s, 0, lanes * (pixels - s));
     }
 }
 
@@ -50,11 +49,12 @@ pub(crate) fn open_all(buf: &mut [u8], lanes: usize, pixels: usize, length: usiz
     ensures { λ _. ⌜ OpensLanes lanes pixels length (now (buf .entry)) (now (buf .exit)) ⌝ }
 {
     if pixels < length {
-        pass::clear(buf, 0);
+        passes::blacken(buf, 0, buf.len());
         return;
     }
     erode_lanes(buf, lanes, pixels, length);
-    pass::clear(buf, lanes * (pixels - length + 1));
+    let eroded = lanes * (pixels - length + 1);
+    passes::blacken(buf, eroded, buf.len() - eroded);
     dilate_lanes(buf, lanes, pixels, length);
 }
 

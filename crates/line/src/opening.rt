@@ -1,6 +1,5 @@
 // The opening of a line.
 use crate::lanes::open_all;
-use crate::pass;
 use answer::Answer;
 use answer::LONGEST;
 use answer::is_outside;
@@ -36,7 +35,7 @@ fn opened_into(src: &[u8], length: usize, dst: &mut [u8])
     ensures { λ _. ⌜ now (dst .exit) ≡ opened (now (src .entry)) length ⌝ }
 {
     let n = src.len();
-    pass::copy(src, n, dst);
+    passes::copy(src, n, dst);
     open_all(dst, 1, n, length);
 }
 

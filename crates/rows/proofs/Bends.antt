@@ -5,22 +5,26 @@
 --   small-product                     a product of an accepted size
 --   bend-marked                       a column's mark, by its rest
 --   bends-more                        one mark more
+--   bends-front                       the marks alone, at the front of a longer list
+--   bends-none                        nothing over: no column bends
+--   marks-fit, marked-by              the marks of a pass have room, and are as many as it needs
 -- Assumes nothing.
 use mathlib.Core.Path.{_≡_, sym, ap, _∙_, subst}
-use mathlib.Core.Bool.{cond}
-use mathlib.Core.List.{List}
-use mathlib.Core.Logic.{⊎-elim}
-use Prim.Native.Nat.{ℕ, _+_, _-_, _*_, _/_, _≤_, _<_}
+use mathlib.Core.Bool.{Bool, cond}
+use mathlib.Core.List.{List, []}
+use mathlib.Core.Logic.{_⊎_, inl, inr, ⊎-elim}
+use Prim.Native.Nat.{ℕ, _+_, _-_, _*_, _/_, _%_, _≤_, _<_}
 use native.Mathlib.Nat.{eq-or-lt-of-le, add-mul, mul-add, mul-assoc, mul-comm, mul-le-mul, one-mul, div-add-mod', mod-lt, add-mul-div-right, div-eq-of-lt}
 use native.Mathlib.Omega.{arith}
 use lib.Dec.{eqb, ltb}
-use lib.ListN.{length, getD, set}
-use lib.Seq.{getD-set-same, getD-set-other}
+use lib.ListN.{length, getD, set, take}
+use lib.Seq.{getD-set-same, getD-set-other, getD-take, length-take-le}
 use borrow.Author.Tests.{lt-ltb, le-ltb}
 use Rattle.lists.proofs.Cases.{less-or-not}
+use Rattle.frame.specs.declared.sweep.Sweep.{Sweep}
 use Rattle.frame.specs.Lines as lines
 use Rattle.frame.specs.Lines.{r}
-use Rattle.rows.specs.Passes.{Bends, Rest}
+use Rattle.rows.specs.Passes.{Bends, Rest, Marked}
 
 pub r-by : (a b i n rest : ℕ) → n * (2 * a) + rest ≡ 2 * i * b + a → rest < 2 * a → r a b i ≡ n
 unfolding lines.r
@@ -90,3 +94,24 @@ bends-more a b e d x v m f room here y h =
     (here ∙ ap (λ (k : ℕ). r a b x + cond (eqb k 0) d (d + 1)) (sym (getD-set-same m x v 0 room))))
     (λ q. f y q ∙ ap (λ (k : ℕ). r a b y + cond (eqb k 0) d (d + 1)) (sym (getD-set-other m x y v 0 (omega arith))))
     (eq-or-lt-of-le {n = y} {m = x} (omega arith))
+
+pub bends-front : (a b e d n : ℕ) (m : List ℕ) → Bends a b e d n m → Bends a b e d n (take n m)
+bends-front a b e d n m p x h = p x h ∙ ap (λ (v : ℕ). r a b x + cond (eqb v 0) d (d + 1)) (sym (getD-take n m x 0 h))
+
+rest-at : (a b x : ℕ) → 1 ≤ a → Rest a b x ((2 * x * b + a) % (2 * a))
+rest-at a b x some = rest-by ((2 * x * b + a) / (2 * a)) (div-add-mod' (2 * x * b + a) (2 * a)) (mod-lt (2 * x * b + a) (omega arith))
+
+pub bends-none : (a b e d n : ℕ) → 1 ≤ a → d ≡ e * b / a → 2 * (e * b - d * a) < 1 → Bends a b e d n []
+bends-none a b e d n some rows nothing x h =
+    let p = rest-at a b x some in
+    bend-marked a b e d some rows p
+    ∙ ap (λ (t : Bool). r a b x + cond (eqb (cond t 0 1) 0) d (d + 1)) (lt-ltb _ (2 * a) (omega (arith, p .below)))
+
+-- k marks, none or one for each of n columns
+pub marks-fit : {k n m : ℕ} → (k ≡ 0) ⊎ (k ≡ n) → n ≤ m → k ≤ m
+marks-fit marks room = ⊎-elim (λ none. omega arith) (λ all. omega arith) marks
+
+pub marked-by : (s : Sweep) (e k : ℕ) (m : List ℕ) → (k ≡ 0) ⊎ (k ≡ s .majors - e) → s .majors - e ≤ length m → Marked s e (take k m)
+marked-by s e k m marks room =
+    let held = length-take-le k m (marks-fit marks room) in
+    ⊎-elim (λ none. inl (held ∙ none)) (λ all. inr (omega (arith, held, all))) marks

@@ -3,7 +3,6 @@
 --   Lines     the passes of an opening, for lines that go any way
 --   Sides     one row's part of a pass, where lines go down the rows
 --   Downs     a pass over all rows there
---   Bents     a pass over a row whose lines bend
 --   Bends     which columns of a row bend
 --   Slants    one row's part of a pass and a pass over all rows, where lines go along the rows and bend
 --   Steeps    what `open_steep` leaves, by its tests
@@ -12,7 +11,6 @@ pub mod Rowwise
 pub mod Lines
 pub mod Sides
 pub mod Downs
-pub mod Bents
 pub mod Bends
 pub mod Slants
 pub mod Steeps

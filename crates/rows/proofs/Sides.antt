@@ -6,15 +6,14 @@
 -- Assumes nothing.
 use mathlib.Core.Path.{_≡_, refl, sym, ap, _∙_}
 use mathlib.Core.List.{List}
-use mathlib.Core.Logic.{⊎-elim}
+use mathlib.Core.Logic.{inl, ⊎-elim}
 use Prim.Native.Nat.{ℕ, _+_, _-_, _≤_, _<_, min, max}
 use native.Mathlib.Omega.{arith}
 use lib.ListN.{length, getD}
 use borrow.Author.Tests.{le-leb, lt-leb, lt-ltb, le-ltb}
 use Rattle.lists.specs.Stores.{Filled}
 use Rattle.lists.proofs.Cases.{less-or-not}
-use Rattle.line.specs.Passes.{narrowed, widened}
-use Rattle.line.specs.Parts.{Darkens, Brightens, Clears}
+use Rattle.passes.specs.Passes.{straight, met, Darkens, Brightens, Clears}
 use Rattle.rows.specs.Rows.{beside}
 
 module _ (g : List ℕ) (from n a b : ℕ) where
@@ -39,17 +38,17 @@ max-zero x y e = omega arith
 -- ---- erosion: the other row starts at `from`, which is `below` behind this one
 
 module _ {g g₁ g₂ : List ℕ} (at n below a b δ : ℕ) (room : at + below + n ≤ length g) (near : δ < n) where
-  pub erode-right : a ≡ b + δ → Darkens at (n - δ) (below + δ) g g₁ → Clears (at + (n - δ)) δ g₁ g₂
+  pub erode-right : a ≡ b + δ → Darkens at (at + (below + δ)) (n - δ) g g₁ → Clears (at + (n - δ)) δ g₁ g₂
       → Filled g g₂ at (at + n) (λ (x : ℕ). min (getD g x 0) (beside g (at + below) n a b (x - at)))
   erode-right right dark clear =
-      let d : Filled g g₁ at (at + (n - δ)) (narrowed g (below + δ)) = dark .done (omega arith) in
+      let d : Filled g g₁ at (at + (n - δ)) (met min (straight (at + (below + δ))) at g) = dark .done (omega arith, omega arith, inl (omega arith)) in
       let c : Filled g₁ g₂ (at + (n - δ)) (at + (n - δ) + δ) (λ (k : ℕ). 0) = clear .done (omega (arith, d .same)) in
       record {
         same = c .same ∙ d .same;
         within = λ x l h.
             ⊎-elim
             (λ in′.
-            let e : x + (below + δ) ≡ at + below + (x - at + a - b) = omega arith in
+            let e : at + (below + δ) + (x - at) ≡ at + below + (x - at + a - b) = omega arith in
             c .below x in′
             ∙ d .within x l in′
             ∙ ap (min (getD g x 0)) (ap (λ (y : ℕ). getD g y 0) e ∙ sym (beside-in g (at + below) n a b (x - at) (omega arith) (omega arith))))
@@ -59,10 +58,11 @@ module _ {g g₁ g₂ : List ℕ} (at n below a b δ : ℕ) (room : at + below +
         above = λ x l. c .above x (omega arith) ∙ d .above x (omega arith);
       }
 
-  pub erode-left : b ≡ a + δ → n ≤ below → Darkens (at + δ) (n - δ) (below - δ) g g₁ → Clears at δ g₁ g₂
+  pub erode-left : b ≡ a + δ → n ≤ below → Darkens (at + δ) (at + below) (n - δ) g g₁ → Clears at δ g₁ g₂
       → Filled g g₂ at (at + n) (λ (x : ℕ). min (getD g x 0) (beside g (at + below) n a b (x - at)))
   erode-left left wide dark clear =
-      let d : Filled g g₁ (at + δ) (at + δ + (n - δ)) (narrowed g (below - δ)) = dark .done (omega arith) in
+      let d : Filled g g₁ (at + δ) (at + δ + (n - δ)) (met min (straight (at + below)) (at + δ) g) =
+      dark .done (omega arith, omega arith, inl (omega arith)) in
       let c : Filled g₁ g₂ at (at + δ) (λ (k : ℕ). 0) = clear .done (omega (arith, d .same)) in
       record {
         same = c .same ∙ d .same;
@@ -70,7 +70,7 @@ module _ {g g₁ g₂ : List ℕ} (at n below a b δ : ℕ) (room : at + below +
             ⊎-elim
             (λ out. c .within x l out ∙ min-zero (getD g x 0) _ (beside-left g (at + below) n a b (x - at) (omega arith)))
             (λ in′.
-            let e : x + (below - δ) ≡ at + below + (x - at + a - b) = omega arith in
+            let e : at + below + (x - (at + δ)) ≡ at + below + (x - at + a - b) = omega arith in
             c .above x in′
             ∙ d .within x in′ (omega arith)
             ∙ ap (min (getD g x 0)) (ap (λ (y : ℕ). getD g y 0) e ∙ sym (beside-in g (at + below) n a b (x - at) (omega arith) (omega arith))))
@@ -100,18 +100,17 @@ gone-left g from n a b far k h = beside-left g from n a b k (omega arith)
 -- ---- dilation: the other row starts at `from`, and this one `above` behind it
 
 module _ {g g₁ : List ℕ} (from n above a b δ : ℕ) (room : from + above + n ≤ length g) (near : δ < n) where
-  pub dilate-right : a ≡ b + δ → n ≤ above → Brightens (from + δ) (n - δ) (above - δ) g g₁
+  pub dilate-right : a ≡ b + δ → n ≤ above → Brightens (from + above) (from + δ) (n - δ) g g₁
       → Filled g g₁ (from + above) (from + above + n) (λ (x : ℕ). max (getD g x 0) (beside g from n a b (x - (from + above))))
   dilate-right right wide bright =
-      let start : from + δ + (above - δ) ≡ from + above = omega arith in
-      let b₁ : Filled g g₁ (from + δ + (above - δ)) (from + δ + (above - δ) + (n - δ)) (widened g (above - δ)) = bright .done (omega arith) in
-      let d : Filled g g₁ (from + above) (from + above + (n - δ)) (widened g (above - δ)) = rw start at b₁ in
+      let d : Filled g g₁ (from + above) (from + above + (n - δ)) (met max (straight (from + δ)) (from + above) g) =
+      bright .done (omega arith, omega arith, inl (omega arith)) in
       record {
         same = d .same;
         within = λ x l h.
             ⊎-elim
             (λ in′.
-            let e : x - (above - δ) ≡ from + (x - (from + above) + a - b) = omega arith in
+            let e : from + δ + (x - (from + above)) ≡ from + (x - (from + above) + a - b) = omega arith in
             d .within x l in′
             ∙ ap (max (getD g x 0)) (ap (λ (y : ℕ). getD g y 0) e ∙ sym (beside-in g from n a b (x - (from + above)) (omega arith) (omega arith))))
             (λ out. d .above x out ∙ max-zero (getD g x 0) _ (beside-right g from n a b (x - (from + above)) (omega arith) (omega arith)))
@@ -120,17 +119,18 @@ module _ {g g₁ : List ℕ} (from n above a b δ : ℕ) (room : from + above + 
         above = λ x l. d .above x (omega arith);
       }
 
-  pub dilate-left : b ≡ a + δ → Brightens from (n - δ) (above + δ) g g₁
+  pub dilate-left : b ≡ a + δ → Brightens (from + (above + δ)) from (n - δ) g g₁
       → Filled g g₁ (from + above) (from + above + n) (λ (x : ℕ). max (getD g x 0) (beside g from n a b (x - (from + above))))
   dilate-left left bright =
-      let d : Filled g g₁ (from + (above + δ)) (from + (above + δ) + (n - δ)) (widened g (above + δ)) = bright .done (omega arith) in
+      let d : Filled g g₁ (from + (above + δ)) (from + (above + δ) + (n - δ)) (met max (straight from) (from + (above + δ)) g) =
+      bright .done (omega arith, omega arith, inl (omega arith)) in
       record {
         same = d .same;
         within = λ x l h.
             ⊎-elim
             (λ out. d .below x out ∙ max-zero (getD g x 0) _ (beside-left g from n a b (x - (from + above)) (omega arith)))
             (λ in′.
-            let e : x - (above + δ) ≡ from + (x - (from + above) + a - b) = omega arith in
+            let e : from + (x - (from + (above + δ))) ≡ from + (x - (from + above) + a - b) = omega arith in
             d .within x in′ (omega arith)
             ∙ ap (max (getD g x 0)) (ap (λ (y : ℕ). getD g y 0) e ∙ sym (beside-in g from n a b (x - (from + above)) (omega arith) (omega arith))))
             (less-or-not x (from + (above + δ)));

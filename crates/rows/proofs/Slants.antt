@@ -8,6 +8,8 @@
 --   slant-near, slant-far      the row that the marks choose
 --   erode-gone, erode-last, erode-both      an erosion's row, where none, one or both of the rows that it asks for are in the frame
 --   dilate-gone, dilate-last, dilate-both   a dilation's row, likewise
+--   erode-straight, dilate-straight         a row of a pass in which no line bends
+--   unmarked, erode-unmarked, dilate-unmarked    a pass without marks
 --   All rows:
 --   erode-more, dilate-more    one row more
 --   cleared-lines              a frame whose rows are all 0
@@ -15,7 +17,7 @@
 -- Assumes nothing.
 use mathlib.Core.Path.{_≡_, refl, sym, ap, ap₂, _∙_, subst}
 use mathlib.Core.Bool.{Bool, true, false, not, cond}
-use mathlib.Core.List.{List}
+use mathlib.Core.List.{List, [], _∷_}
 use mathlib.Core.Logic.{_⊎_, inl, inr, ⊎-elim}
 use Prim.Native.Nat.{ℕ, _+_, _-_, _*_, _≤_, _<_, min, max, zero-le}
 use native.Mathlib.Nat.{mul-one, le-refl}
@@ -25,14 +27,14 @@ use lib.ListN.{length, getD}
 use borrow.Author.Tests.{lt-ltb, le-ltb}
 use Rattle.lists.specs.Stores.{Filled}
 use Rattle.lists.proofs.Cases.{less-or-not}
-use Rattle.line.specs.Parts.{Clears}
+use Rattle.passes.specs.Passes.{straight, bent, Ahead, Behind, Clears}
 use Rattle.frame.specs.declared.sweep.Sweep.{Sweep}
 use Rattle.frame.specs.Lines.{r}
 use Rattle.frame.specs.Sweep.{shift, Sane}
 use Rattle.frame.proofs.Rounding.{r-up}
 use Rattle.frame.proofs.Spans.{shift-falling, shift-rising}
 use Rattle.rows.specs.Rows.{spot, laneAt, PixelsAre, RowsAre, rowsOf}
-use Rattle.rows.specs.Passes.{eroding, dilating, Slanted, startOf, rowStart, aheadAt, rowsOn, Bends, onward, backward, eroded, dilated, bent, Ahead, Behind}
+use Rattle.rows.specs.Passes.{eroding, dilating, Slanted, startOf, rowStart, aheadAt, rowsOn, Bends, onward, backward, eroded, dilated}
 use Rattle.rows.proofs.Rowwise.{Parted, parted-rows, row-kept, row-room, rows-more}
 use Rattle.rows.proofs.Lines.{lane-in, lane-left, lane-right, columns-pixels, pixels-as}
 
@@ -131,7 +133,7 @@ module _ (s : Sweep) (up : Bool) (m : List ℕ) (e d : ℕ) (g : List ℕ) (t : 
 
   -- both rows are in the frame; column j of them stands c bytes behind their starts
   chosen-both : (near far c j x : ℕ) → t + d + 1 < s .minors → near ≡ rowStart s up (t + d) + c → far ≡ rowStart s up (t + (d + 1)) + c
-      → j ≡ x + c → bent m g near far x ≡ aheadAt up (s .minors) (s .minor) g t j (rowsOn d m x)
+      → j ≡ x + c → bent m near far g x ≡ aheadAt up (s .minors) (s .minor) g t j (rowsOn d m x)
   unfolding bent
   chosen-both near far c j x in′ en ef ej =
       bool-cases
@@ -139,6 +141,14 @@ module _ (s : Sweep) (up : Bool) (m : List ℕ) (e d : ℕ) (g : List ℕ) (t : 
       (eqb (getD m x 0) 0)
       (λ q. ap (λ (y : ℕ). getD g y 0) (omega (arith, en, ej)) ∙ sym (ahead-in up (s .minors) (s .minor) g t j d (omega arith)))
       (λ q. ap (λ (y : ℕ). getD g y 0) (omega (arith, ef, ej)) ∙ sym (ahead-in up (s .minors) (s .minor) g t j (d + 1) (omega arith)))
+
+  -- no line bends
+  chosen-straight : (near c j x : ℕ) → ((y : ℕ) → rowsOn d m y ≡ d) → t + d < s .minors → near ≡ rowStart s up (t + d) + c → j ≡ x + c
+      → straight near g x ≡ aheadAt up (s .minors) (s .minor) g t j (rowsOn d m x)
+  chosen-straight near c j x plain in′ en ej =
+      ap (λ (y : ℕ). getD g y 0) (omega (arith, en, ej))
+      ∙ sym (ahead-in up (s .minors) (s .minor) g t j d in′)
+      ∙ sym (ap (aheadAt up (s .minors) (s .minor) g t j) (plain x))
 
   -- only the near row is
   chosen-last : (near c j x : ℕ) → t + d < s .minors → s .minors ≤ t + d + 1 → near ≡ rowStart s up (t + d) + c → j ≡ x + c
@@ -172,28 +182,35 @@ module _ (s : Sweep) (up : Bool) (m : List ℕ) (e d : ℕ) (g : List ℕ) (t : 
         })
 
     module _ (n near : ℕ) (wide : n + e ≡ s .majors) (first : near ≡ rowStart s up (t + d) + e) where
-      pub erode-both : {g₁ g₂ : List ℕ} (far : ℕ) → Filled g g₁ at (at + n) (λ (x : ℕ). min (getD g x 0) (bent m g near far (x - at))) → Clears (at + n) e g₁ g₂
-          → t + d + 1 < s .minors → far ≡ rowStart s up (t + (d + 1)) + e
+      -- the row where `partner` has the pixels that its lines go on to
+      erode-by : {g₁ g₂ : List ℕ} (partner : ℕ → ℕ) → ((x : ℕ) → partner x ≡ aheadAt up (s .minors) (s .minor) g t (x + e) (rowsOn d m x))
+          → Filled g g₁ at (at + n) (λ (x : ℕ). min (getD g x 0) (partner (x - at))) → Clears (at + n) e g₁ g₂
           → Filled g g₂ (rowStart s up t) (rowStart s up t + s .majors) (λ (x : ℕ). eroded s up m e d g t (x - rowStart s up t))
-      erode-both {g₁} {g₂} far f clear in′ second =
+      erode-by {g₁} {g₂} partner chosen f clear =
           let c : Filled g₁ g₂ (at + n) (at + n + e) (λ (x : ℕ). 0) = clear .done (omega (arith, f .same)) in
           settled (eroded s up m e d g t)
           (record {
             same = c .same ∙ f .same;
             within = λ x l h.
                 ⊎-elim
-                (λ q.
-                c .below x q
-                ∙ f .within x l q
-                ∙ ap₂ min (own x l)
-                (chosen-both near far e (x - at + e) (x - at) in′ first second refl ∙ sym (onward-in (x - at) (omega arith))))
+                (λ q. c .below x q ∙ f .within x l q ∙ ap₂ min (own x l) (chosen (x - at) ∙ sym (onward-in (x - at) (omega arith))))
                 (λ q. c .within x q (omega arith) ∙ min-zero _ _ (onward-out (x - at) (omega arith)))
                 (less-or-not x (at + n));
             below = λ x l. c .below x (omega arith) ∙ f .below x l;
             above = λ x l. c .above x (omega arith) ∙ f .above x (omega arith);
           })
 
-      pub erode-last : {g₁ g₂ g₃ : List ℕ} → Filled g g₁ at (at + n) (λ (x : ℕ). min (getD g x 0) (bent m g near at (x - at)))
+      pub erode-both : {g₁ g₂ : List ℕ} (far : ℕ) → Filled g g₁ at (at + n) (λ (x : ℕ). min (getD g x 0) (bent m near far g (x - at))) → Clears (at + n) e g₁ g₂
+          → t + d + 1 < s .minors → far ≡ rowStart s up (t + (d + 1)) + e
+          → Filled g g₂ (rowStart s up t) (rowStart s up t + s .majors) (λ (x : ℕ). eroded s up m e d g t (x - rowStart s up t))
+      erode-both far f clear in′ second = erode-by (bent m near far g) (λ x. chosen-both near far e (x + e) x in′ first second refl) f clear
+
+      pub erode-straight : {g₁ g₂ : List ℕ} → ((x : ℕ) → rowsOn d m x ≡ d) → Filled g g₁ at (at + n) (λ (x : ℕ). min (getD g x 0) (straight near g (x - at)))
+          → Clears (at + n) e g₁ g₂ → t + d < s .minors
+          → Filled g g₂ (rowStart s up t) (rowStart s up t + s .majors) (λ (x : ℕ). eroded s up m e d g t (x - rowStart s up t))
+      erode-straight plain f clear in′ = erode-by (straight near g) (λ x. chosen-straight near e (x + e) x plain in′ first refl) f clear
+
+      pub erode-last : {g₁ g₂ g₃ : List ℕ} → Filled g g₁ at (at + n) (λ (x : ℕ). min (getD g x 0) (bent m near at g (x - at)))
           → Filled g₁ g₂ at (at + n) (λ (x : ℕ). cond (eqb (getD m (x - at) 0) 0) (getD g₁ x 0) 0) → Clears (at + n) e g₂ g₃
           → t + d < s .minors → s .minors ≤ t + d + 1
           → Filled g g₃ (rowStart s up t) (rowStart s up t + s .majors) (λ (x : ℕ). eroded s up m e d g t (x - rowStart s up t))
@@ -219,7 +236,7 @@ module _ (s : Sweep) (up : Bool) (m : List ℕ) (e d : ℕ) (g : List ℕ) (t : 
           })
         where
           darker : (x : ℕ)
-              → cond (eqb (getD m (x - at) 0) 0) (min (getD g x 0) (bent m g near at (x - at))) 0
+              → cond (eqb (getD m (x - at) 0) 0) (min (getD g x 0) (bent m near at g (x - at))) 0
               ≡ min (getD g x 0) (cond (eqb (getD m (x - at) 0) 0) (getD g (near + (x - at)) 0) 0)
           darker x =
               bool-cases
@@ -238,10 +255,11 @@ module _ (s : Sweep) (up : Bool) (m : List ℕ) (e d : ℕ) (g : List ℕ) (t : 
         })
 
     module _ (n near : ℕ) (wide : n + e ≡ s .majors) (first : near ≡ rowStart s up (t + d)) where
-      pub dilate-both : {g₁ : List ℕ} (far : ℕ) → Filled g g₁ (at + e) (at + e + n) (λ (x : ℕ). max (getD g x 0) (bent m g near far (x - (at + e))))
-          → t + d + 1 < s .minors → far ≡ rowStart s up (t + (d + 1))
+      -- the row where `partner` has the pixels that its lines come from
+      dilate-by : {g₁ : List ℕ} (partner : ℕ → ℕ) → ((x : ℕ) → partner x ≡ aheadAt up (s .minors) (s .minor) g t x (rowsOn d m x))
+          → Filled g g₁ (at + e) (at + e + n) (λ (x : ℕ). max (getD g x 0) (partner (x - (at + e))))
           → Filled g g₁ (rowStart s up t) (rowStart s up t + s .majors) (λ (x : ℕ). dilated s up m e d g t (x - rowStart s up t))
-      dilate-both {g₁} far f in′ second =
+      dilate-by {g₁} partner chosen f =
           settled (dilated s up m e d g t)
           (record {
             same = f .same;
@@ -251,16 +269,24 @@ module _ (s : Sweep) (up : Bool) (m : List ℕ) (e d : ℕ) (g : List ℕ) (t : 
                 (λ q.
                 let c : x - (at + e) ≡ x - at - e = omega arith in
                 f .within x q (omega arith)
-                ∙ ap₂ max (own x l)
-                (ap (bent m g near far) c
-                ∙ chosen-both near far 0 (x - at - e) (x - at - e) in′ (omega (arith, first)) (omega (arith, second)) (omega arith)
-                ∙ sym (backward-in (x - at) (omega arith))))
+                ∙ ap₂ max (own x l) (ap partner c ∙ chosen (x - at - e) ∙ sym (backward-in (x - at) (omega arith))))
                 (less-or-not x (at + e));
             below = λ x l. f .below x (omega arith);
             above = λ x l. f .above x (omega arith);
           })
 
-      pub dilate-last : {g₁ : List ℕ} → Filled g g₁ (at + e) (at + e + n) (λ (x : ℕ). max (getD g x 0) (bent m g near (at + e) (x - (at + e))))
+      pub dilate-both : {g₁ : List ℕ} (far : ℕ) → Filled g g₁ (at + e) (at + e + n) (λ (x : ℕ). max (getD g x 0) (bent m near far g (x - (at + e))))
+          → t + d + 1 < s .minors → far ≡ rowStart s up (t + (d + 1))
+          → Filled g g₁ (rowStart s up t) (rowStart s up t + s .majors) (λ (x : ℕ). dilated s up m e d g t (x - rowStart s up t))
+      dilate-both far f in′ second =
+          dilate-by (bent m near far g) (λ x. chosen-both near far 0 x x in′ (omega (arith, first)) (omega (arith, second)) (omega arith)) f
+
+      pub dilate-straight : {g₁ : List ℕ} → ((x : ℕ) → rowsOn d m x ≡ d) → Filled g g₁ (at + e) (at + e + n) (λ (x : ℕ). max (getD g x 0) (straight near g (x - (at + e))))
+          → t + d < s .minors
+          → Filled g g₁ (rowStart s up t) (rowStart s up t + s .majors) (λ (x : ℕ). dilated s up m e d g t (x - rowStart s up t))
+      dilate-straight plain f in′ = dilate-by (straight near g) (λ x. chosen-straight near 0 x x plain in′ (omega (arith, first)) (omega arith)) f
+
+      pub dilate-last : {g₁ : List ℕ} → Filled g g₁ (at + e) (at + e + n) (λ (x : ℕ). max (getD g x 0) (bent m near (at + e) g (x - (at + e))))
           → t + d < s .minors → s .minors ≤ t + d + 1
           → Filled g g₁ (rowStart s up t) (rowStart s up t + s .majors) (λ (x : ℕ). dilated s up m e d g t (x - rowStart s up t))
       unfolding bent
@@ -285,7 +311,7 @@ module _ (s : Sweep) (up : Bool) (m : List ℕ) (e d : ℕ) (g : List ℕ) (t : 
           })
         where
           brighter : (x : ℕ) → at + e ≤ x
-              → max (getD g x 0) (bent m g near (at + e) (x - (at + e)))
+              → max (getD g x 0) (bent m near (at + e) g (x - (at + e)))
               ≡ max (getD g x 0) (cond (eqb (getD m (x - (at + e)) 0) 0) (getD g (near + (x - (at + e))) 0) 0)
           brighter x l =
               let back : at + e + (x - (at + e)) ≡ x = omega arith in
@@ -294,6 +320,25 @@ module _ (s : Sweep) (up : Bool) (m : List ℕ) (e d : ℕ) (g : List ℕ) (t : 
               max (getD g x 0) (cond b (getD g (near + (x - (at + e))) 0) (getD g (at + e + (x - (at + e))) 0))
               ≡ max (getD g x 0) (cond b (getD g (near + (x - (at + e))) 0) 0))
               (eqb (getD m (x - (at + e)) 0) 0) (λ q. refl) (λ q. omega (arith, ap (λ (y : ℕ). getD g y 0) back))
+
+-- a pass without marks has all its lines go d rows aside
+pub unmarked : (d x : ℕ) → rowsOn d [] x ≡ d
+unmarked d x = refl
+
+no-marks : (m : List ℕ) → length m < 1 → m ≡ []
+no-marks [] h = refl
+no-marks (v ∷ m) h = absurd (omega (arith, h))
+
+module _ (s : Sweep) (up : Bool) (e d : ℕ) (g : List ℕ) (t : ℕ) {g′ : List ℕ} (m : List ℕ) (none : length m < 1) where
+  pub erode-unmarked : Filled g g′ (rowStart s up t) (rowStart s up t + s .majors) (λ (x : ℕ). eroded s up [] e d g t (x - rowStart s up t))
+      → Filled g g′ (rowStart s up t) (rowStart s up t + s .majors) (λ (x : ℕ). eroded s up m e d g t (x - rowStart s up t))
+  erode-unmarked f =
+      subst (λ (v : List ℕ). Filled g g′ (rowStart s up t) (rowStart s up t + s .majors) (λ (x : ℕ). eroded s up v e d g t (x - rowStart s up t))) (sym (no-marks m none)) f
+
+  pub dilate-unmarked : Filled g g′ (rowStart s up t) (rowStart s up t + s .majors) (λ (x : ℕ). dilated s up [] e d g t (x - rowStart s up t))
+      → Filled g g′ (rowStart s up t) (rowStart s up t + s .majors) (λ (x : ℕ). dilated s up m e d g t (x - rowStart s up t))
+  dilate-unmarked f =
+      subst (λ (v : List ℕ). Filled g g′ (rowStart s up t) (rowStart s up t + s .majors) (λ (x : ℕ). dilated s up v e d g t (x - rowStart s up t))) (sym (no-marks m none)) f
 
 -- ---- all rows
 

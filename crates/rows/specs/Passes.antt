@@ -12,18 +12,17 @@
 --   aheadAt up N S g t j d   the pixel in column j, d rows past row t in this order; 0 where there is none
 --   Bends a b e d n m    the marks m say, for the n columns from 0 on, whether a line that rises b in a run of a goes d or d + 1 rows aside in the next e columns
 --   Rest a b x rest      what the rounding of r at x leaves over
+--   Over a b e d over    what e columns have over, twice, past the d rows that they make for sure
+--   Marked s e m         m has a mark for each column with one e further on, or there are none at all, as no line bends
 --   rowsOn d m x         so many rows, by the mark of column x
 --   onward, backward     the pixel's neighbour on its line e columns on, or before, by the marks
 --   eroded, dilated      what a pass makes of the pixel in column x of row t
---   bent m g near far j  byte j of one of two rows of g, which start at `near` and `far`: of the near one where the mark j of m is 0
---   Ahead at p n         an upward pass over the n bytes from `at` on finds those from p on as they were
---   Behind at p n        the same of a downward pass
--- Laws: rows/proofs/Lines, Downs, Bents, Bends, Slants.
+-- Laws: rows/proofs/Lines, Downs, Bends, Slants.
 use mathlib.Core.Path.{_≡_}
 use mathlib.Core.Bool.{Bool, cond}
 use mathlib.Core.List.{List}
 use mathlib.Core.Logic.{_⊎_}
-use Prim.Native.Nat.{ℕ, _+_, _-_, _*_, _≤_, _<_, min, max}
+use Prim.Native.Nat.{ℕ, _+_, _-_, _*_, _/_, _≤_, _<_, min, max}
 use lib.Dec.{eqb, ltb}
 use lib.ListN.{length, getD}
 use Rattle.frame.specs.declared.sweep.Sweep.{Sweep}
@@ -93,15 +92,12 @@ eroded s up m e d g t x = min (getD g (rowStart s up t + x) 0) (onward s up m e 
 abbrev pub dilated : Sweep → Bool → List ℕ → ℕ → ℕ → List ℕ → ℕ → ℕ → ℕ
 dilated s up m e d g t x = max (getD g (rowStart s up t + x) 0) (backward s up m e d g t x)
 
-unfoldable pub bent : List ℕ → List ℕ → ℕ → ℕ → ℕ → ℕ
-bent m g near far j = cond (eqb (getD m j 0) 0) (getD g (near + j) 0) (getD g (far + j) 0)
-
 pub record Rest (a b x rest : ℕ) : Type 0 where
   pub sum : r a b x * (2 * a) + rest ≡ 2 * x * b + a
   pub below : rest < 2 * a
 
-abbrev pub Ahead : ℕ → ℕ → ℕ → Type 0
-Ahead at p n = (at ≤ p) ⊎ (p + n ≤ at)
+abbrev pub Over : ℕ → ℕ → ℕ → ℕ → ℕ → Type 0
+Over a b e d over = (d ≡ e * b / a) × (over ≡ 2 * (e * b - d * a))
 
-abbrev pub Behind : ℕ → ℕ → ℕ → Type 0
-Behind at p n = (p ≤ at) ⊎ (at + n ≤ p)
+abbrev pub Marked : Sweep → ℕ → List ℕ → Type 0
+Marked s e m = (length m ≡ 0) ⊎ (s .majors ≤ length m + e)

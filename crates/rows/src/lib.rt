@@ -1,6 +1,6 @@
 // The opening of a frame in one direction, in place, by passes over whole rows: line for line the passes of crate `line`, and every one of them a flat
 // loop over neighbouring bytes. No line is gathered, and nothing is laid aside but, in a shallow direction, a row of marks.
-mod bent;
+mod marks;
 mod pass;
 mod row;
 mod shallow;

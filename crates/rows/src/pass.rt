@@ -50,7 +50,7 @@ pub(crate) fn clear_rows(buf: &mut [u8], stride: usize, n: usize, from: usize, t
 {
     let mut i = from;
     while i < to {
-        line::blacken(buf, i * stride, n);
+        passes::blacken(buf, i * stride, n);
         i += 1;
     }
 }

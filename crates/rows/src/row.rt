@@ -12,20 +12,20 @@ pub(crate) fn erode_row(buf: &mut [u8], at: usize, n: usize, below: usize, a: us
     if b <= a {
         let aside = a - b;
         if n <= aside {
-            line::blacken(buf, at, n);
+            passes::blacken(buf, at, n);
             return;
         }
-        line::darken(buf, at, n - aside, below + aside);
-        line::blacken(buf, at + (n - aside), aside);
+        passes::darken(buf, at, at + (below + aside), n - aside);
+        passes::blacken(buf, at + (n - aside), aside);
         return;
     }
     let aside = b - a;
     if n <= aside {
-        line::blacken(buf, at, n);
+        passes::blacken(buf, at, n);
         return;
     }
-    line::darken(buf, at + aside, n - aside, below - aside);
-    line::blacken(buf, at, aside);
+    passes::darken(buf, at + aside, at + below, n - aside);
+    passes::blacken(buf, at, aside);
 }
 
 // Each of the n pixels of the row `above` bytes behind `from` becomes the brighter of itself and its line's pixel in the row at `from`, where the line has one there.
@@ -38,12 +38,12 @@ pub(crate) fn dilate_row(buf: &mut [u8], from: usize, n: usize, above: usize, a:
         if n <= aside {
             return;
         }
-        line::brighten(buf, from + aside, n - aside, above - aside);
+        passes::brighten(buf, from + above, from + aside, n - aside);
         return;
     }
     let aside = b - a;
     if n <= aside {
         return;
     }
-    line::brighten(buf, from, n - aside, above + aside);
+    passes::brighten(buf, from + (above + aside), from, n - aside);
 }

@@ -1,6 +1,6 @@
 // The opening of a frame in a shallow direction, in place: as in a steep one the windows' length doubles from one pass to the next, and the marks are made anew
 // for each pass.
-use crate::bent::mark_bends;
+use crate::marks::mark_bends;
 use crate::pass::clear_rows;
 use crate::slant::dilate_slants;
 use crate::slant::erode_slants;
@@ -21,8 +21,8 @@ fn erode_along(buf: &mut [u8], bends: &mut [u8], s: Sweep, length: usize)
     while w < length {
         let e = line::growth(w, length);
         let step = e * s.rise / s.run;
-        mark_bends(bends, s.majors - e, s.run, s.rise, e, step);
-        erode_slants(buf, bends, s, s.falling, e, step);
+        let marks = mark_bends(bends, s.majors - e, s.run, s.rise, e, step);
+        erode_slants(buf, &bends[..marks], s, s.falling, e, step);
         w += e;
     }
 }
@@ -36,8 +36,8 @@ fn dilate_along(buf: &mut [u8], bends: &mut [u8], s: Sweep, length: usize)
     while w < length {
         let e = line::growth(w, length);
         let step = e * s.rise / s.run;
-        mark_bends(bends, s.majors - e, s.run, s.rise, e, step);
-        dilate_slants(buf, bends, s, !s.falling, e, step);
+        let marks = mark_bends(bends, s.majors - e, s.run, s.rise, e, step);
+        dilate_slants(buf, &bends[..marks], s, !s.falling, e, step);
         w += e;
     }
 }

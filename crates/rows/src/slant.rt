@@ -1,16 +1,14 @@
 // A pass in a shallow direction, row by row. Rows are counted in the order in which the lines cross them, from the frame's last one on where `up`: what a
 // row asks for then stands in itself or in rows that come after it, and is as it was.
-use crate::bent::blacken_bent;
-use crate::bent::brighten_bent;
-use crate::bent::darken_bent;
 use frame::Sweep;
 ghost use mathlib.Core.Path.{_≡_};
+ghost use mathlib.Core.List.{[]};
 ghost use Prim.Native.Nat.{ℕ, _+_, _-_, _≤_, _<_};
 ghost use lib.ListN.{length};
 ghost use Rattle.lists.specs.Stores.{Filled};
 ghost use Rattle.frame.specs.Sweep.{Sane};
 ghost use Rattle.rows.specs.Rows.{RowsAre};
-ghost use Rattle.rows.specs.Passes.{Slanted, rowStart, eroded, dilated};
+ghost use Rattle.rows.specs.Passes.{Slanted, Marked, rowStart, eroded, dilated};
 
 // Where row t starts.
 fn start(s: Sweep, up: bool, t: usize) -> usize
@@ -26,33 +24,62 @@ fn start(s: Sweep, up: bool, t: usize) -> usize
     }
 }
 
-// Each pixel of row t becomes the darker of itself and its line's pixel e columns on, which stands `step` rows on, or one more where it is marked.
-fn erode_slant(buf: &mut [u8], bends: &[u8], s: Sweep, up: bool, t: usize, e: usize, step: usize)
-    requires { ⌜ Slanted s (now buf) × (t < s .minors) × (e ≤ s .majors) × (s .majors ≤ length (now bends)) ⌝ }
+// Each pixel of row t becomes the darker of itself and its line's pixel e columns on, which stands `step` rows on, or one more where it is
+// marked.
+fn erode_bent(buf: &mut [u8], bends: &[u8], s: Sweep, up: bool, t: usize, e: usize, step: usize)
+    requires { ⌜ Slanted s (now buf) × (t < s .minors) × (e ≤ s .majors) × (s .majors ≤ length (now bends) + e) ⌝ }
     ensures { λ _. ⌜ Filled (now (buf .entry)) (now (buf .exit)) (rowStart s up t) (rowStart s up t + s .majors) (λ (x : ℕ). eroded s up (now (bends .entry)) e step (now (buf .entry)) t (x - rowStart s up t)) ⌝ }
 {
     let left = s.minors - t;
     let at = start(s, up, t);
     if left <= step {
-        line::blacken(buf, at, s.majors);
+        passes::blacken(buf, at, s.majors);
         return;
     }
     let n = s.majors - e;
     let near = start(s, up, t + step) + e;
     if left - step < 2 {
-        darken_bent(buf, bends, at, near, at, n);
-        blacken_bent(buf, bends, at, n);
-        line::blacken(buf, at + n, e);
+        passes::darken_bent(buf, bends, at, near, at, n);
+        passes::blacken_bent(buf, bends, at, n);
+        passes::blacken(buf, at + n, e);
         return;
     }
     let far = start(s, up, t + (step + 1)) + e;
-    darken_bent(buf, bends, at, near, far, n);
-    line::blacken(buf, at + n, e);
+    passes::darken_bent(buf, bends, at, near, far, n);
+    passes::blacken(buf, at + n, e);
+}
+
+// The same in a pass in which no line bends, which has no marks.
+fn erode_straight(buf: &mut [u8], s: Sweep, up: bool, t: usize, e: usize, step: usize)
+    requires { ⌜ Slanted s (now buf) × (t < s .minors) × (e ≤ s .majors) ⌝ }
+    ensures { λ _. ⌜ Filled (now (buf .entry)) (now (buf .exit)) (rowStart s up t) (rowStart s up t + s .majors) (λ (x : ℕ). eroded s up [] e step (now (buf .entry)) t (x - rowStart s up t)) ⌝ }
+{
+    let left = s.minors - t;
+    let at = start(s, up, t);
+    if left <= step {
+        passes::blacken(buf, at, s.majors);
+        return;
+    }
+    let n = s.majors - e;
+    let near = start(s, up, t + step) + e;
+    passes::darken(buf, at, near, n);
+    passes::blacken(buf, at + n, e);
+}
+
+fn erode_slant(buf: &mut [u8], bends: &[u8], s: Sweep, up: bool, t: usize, e: usize, step: usize)
+    requires { ⌜ Slanted s (now buf) × (t < s .minors) × (e ≤ s .majors) × Marked s e (now bends) ⌝ }
+    ensures { λ _. ⌜ Filled (now (buf .entry)) (now (buf .exit)) (rowStart s up t) (rowStart s up t + s .majors) (λ (x : ℕ). eroded s up (now (bends .entry)) e step (now (buf .entry)) t (x - rowStart s up t)) ⌝ }
+{
+    if bends.len() < 1 {
+        erode_straight(buf, s, up, t, e, step);
+        return;
+    }
+    erode_bent(buf, bends, s, up, t, e, step);
 }
 
 // Each pixel of row t becomes the brighter of itself and its line's pixel e columns before, where there is one.
-fn dilate_slant(buf: &mut [u8], bends: &[u8], s: Sweep, up: bool, t: usize, e: usize, step: usize)
-    requires { ⌜ Slanted s (now buf) × (t < s .minors) × (e ≤ s .majors) × (s .majors ≤ length (now bends)) ⌝ }
+fn dilate_bent(buf: &mut [u8], bends: &[u8], s: Sweep, up: bool, t: usize, e: usize, step: usize)
+    requires { ⌜ Slanted s (now buf) × (t < s .minors) × (e ≤ s .majors) × (s .majors ≤ length (now bends) + e) ⌝ }
     ensures { λ _. ⌜ Filled (now (buf .entry)) (now (buf .exit)) (rowStart s up t) (rowStart s up t + s .majors) (λ (x : ℕ). dilated s up (now (bends .entry)) e step (now (buf .entry)) t (x - rowStart s up t)) ⌝ }
 {
     let left = s.minors - t;
@@ -63,15 +90,40 @@ fn dilate_slant(buf: &mut [u8], bends: &[u8], s: Sweep, up: bool, t: usize, e: u
     let n = s.majors - e;
     let near = start(s, up, t + step);
     if left - step < 2 {
-        brighten_bent(buf, bends, at, near, at, n);
+        passes::brighten_bent(buf, bends, at, near, at, n);
         return;
     }
     let far = start(s, up, t + (step + 1));
-    brighten_bent(buf, bends, at, near, far, n);
+    passes::brighten_bent(buf, bends, at, near, far, n);
+}
+
+// The same in a pass in which no line bends, which has no marks.
+fn dilate_straight(buf: &mut [u8], s: Sweep, up: bool, t: usize, e: usize, step: usize)
+    requires { ⌜ Slanted s (now buf) × (t < s .minors) × (e ≤ s .majors) ⌝ }
+    ensures { λ _. ⌜ Filled (now (buf .entry)) (now (buf .exit)) (rowStart s up t) (rowStart s up t + s .majors) (λ (x : ℕ). dilated s up [] e step (now (buf .entry)) t (x - rowStart s up t)) ⌝ }
+{
+    let left = s.minors - t;
+    if left <= step {
+        return;
+    }
+    let at = start(s, up, t) + e;
+    let near = start(s, up, t + step);
+    passes::brighten(buf, at, near, s.majors - e);
+}
+
+fn dilate_slant(buf: &mut [u8], bends: &[u8], s: Sweep, up: bool, t: usize, e: usize, step: usize)
+    requires { ⌜ Slanted s (now buf) × (t < s .minors) × (e ≤ s .majors) × Marked s e (now bends) ⌝ }
+    ensures { λ _. ⌜ Filled (now (buf .entry)) (now (buf .exit)) (rowStart s up t) (rowStart s up t + s .majors) (λ (x : ℕ). dilated s up (now (bends .entry)) e step (now (buf .entry)) t (x - rowStart s up t)) ⌝ }
+{
+    if bends.len() < 1 {
+        dilate_straight(buf, s, up, t, e, step);
+        return;
+    }
+    dilate_bent(buf, bends, s, up, t, e, step);
 }
 
 pub(crate) fn erode_slants(buf: &mut [u8], bends: &[u8], s: Sweep, up: bool, e: usize, step: usize)
-    requires { ⌜ Slanted s (now buf) × (e ≤ s .majors) × (s .majors ≤ length (now bends)) ⌝ }
+    requires { ⌜ Slanted s (now buf) × (e ≤ s .majors) × Marked s e (now bends) ⌝ }
     ensures { λ _. ⌜ RowsAre (rowStart s up) (s .majors) 0 (s .minors) (eroded s up (now (bends .entry)) e step (now (buf .entry))) (now (buf .entry)) (now (buf .exit)) ⌝ }
 {
     let rows = s.minors;
@@ -83,7 +135,7 @@ pub(crate) fn erode_slants(buf: &mut [u8], bends: &[u8], s: Sweep, up: bool, e: 
 }
 
 pub(crate) fn dilate_slants(buf: &mut [u8], bends: &[u8], s: Sweep, up: bool, e: usize, step: usize)
-    requires { ⌜ Slanted s (now buf) × (e ≤ s .majors) × (s .majors ≤ length (now bends)) ⌝ }
+    requires { ⌜ Slanted s (now buf) × (e ≤ s .majors) × Marked s e (now bends) ⌝ }
     ensures { λ _. ⌜ RowsAre (rowStart s up) (s .majors) 0 (s .minors) (dilated s up (now (bends .entry)) e step (now (buf .entry))) (now (buf .entry)) (now (buf .exit)) ⌝ }
 {
     let rows = s.minors;

@@ -1,7 +1,9 @@
 -- One line alone: the values with zeros behind them grow where they stand.
-use mathlib.Core.Path.{refl, _∙_}
+use mathlib.Core.Path.{refl, sym, _∙_}
 use native.Mathlib.Omega.{arith}
+use lib.ListN
 use Rattle.line.proofs.Passes.{dilated-passes}
+use Rattle.line.proofs.Parts.{cleared-by}
 use Rattle.line.proofs.Strides.{dilates-alone}
 use borrow.Author.Needs.{needs}
 use Rattle.line.proofs.dilation.dilated_into.Statement.{statement}
@@ -10,8 +12,11 @@ use Rattle.line.proofs.dilation.dilated_into.Tie as tie
 copy-requires : tie.Need-copy-requires
 copy-requires c κs = search needs
 
-clear-requires : tie.Need-clear-requires
-clear-requires c κs = search needs
+sub-blacken : tie.Need-sub-blacken
+sub-blacken c = search needs
+
+blacken-requires : tie.Need-blacken-requires
+blacken-requires c κs = search needs
 
 dilate-lanes-requires : tie.Need-dilate-lanes-requires
 dilate-lanes-requires c κs = search needs
@@ -24,14 +29,14 @@ returns c =
     let args = c .before .before .before .before .before .before .before .before .before .before .before .before .before .before .args in
     let src = args .src .now in
     let length = args .length in
-    let copy = c .before .before .before .before .before .before .before .before .before .before .copy .ensures in
-    let clear = c .before .before .before .before .before .before .clear .ensures in
+    let copy = c .before .before .before .before .before .before .before .before .before .before .copy .ensures .done (omega arith) (omega arith) in
+    let clear = cleared-by _ _ {hi = lib.ListN.length (args .dst .now)} (c .before .before .before .before .before .before .blacken .ensures) (omega arith) (omega (arith, copy .same)) in
     let grown = c .before .before .dilate-lanes in
     let dilates = dilates-alone (grown .ensures) (omega (arith, clear .same)) (omega arith) in
-    dilated-passes src copy clear dilates refl refl (omega arith)
+    dilated-passes src copy clear dilates refl (sym (copy .same)) (omega arith)
     (copy .same ∙ c .before .before .before .before .before .before .before .before .before .before .before .before .before .before .pre .2)
     (grown .kept .0 ∙ clear .same)
 
 pub dilated-into-spec : {M : Type 1} → statement M
 dilated-into-spec =
-    tie.close (tie.spec copy-requires clear-requires dilate-lanes-requires same-length returns)
+    tie.close (tie.spec copy-requires sub-blacken blacken-requires dilate-lanes-requires same-length returns)

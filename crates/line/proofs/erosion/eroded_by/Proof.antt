@@ -26,10 +26,10 @@ returns : tie.Need-returns
 returns c =
     let src = c .before .before .before .before .before .before .before .before .before .before .before .before .before .before .before .before .args .src .now in
     let pre = c .before .before .before .before .before .before .before .before .before .before .before .before .before .before .before .before .pre in
-    let copy = c .before .before .before .before .before .before .before .before .before .before .before .copy .ensures in
+    let copy = c .before .before .before .before .before .before .before .before .before .before .before .copy .ensures .done (omega arith) (omega arith) in
     let eroded = c .before .before .before .before .before .before .before .erode-lanes in
     eroded-passes src copy (erodes-alone (eroded .ensures) (omega (arith, copy .same)) (omega (arith, copy .same, eroded .kept .0)))
-    (c .before .before .copy2 .ensures) refl (pre .2) refl (omega arith)
+    (c .before .before .copy2 .ensures .done (omega arith) (omega arith)) refl (pre .2) refl (omega arith)
 
 pub eroded-by-spec : {M : Type 1} → statement M
 eroded-by-spec =

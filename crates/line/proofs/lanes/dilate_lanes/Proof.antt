@@ -1,11 +1,12 @@
 -- The buffer holds the lines dilated by windows of w pixels.
 use mathlib.Core.Path.{_≡_}
-use Prim.Native.Nat.{_-_, _*_, _≤_}
+use Prim.Native.Nat.{_+_, _-_, _*_, _≤_}
 use native.Mathlib.Nat.{mul-le-mul-left}
 use native.Mathlib.Omega.{arith}
 use lib.ListN
 use Rattle.line.specs.Passes.{DilatesLanes}
-use Rattle.line.proofs.Strides.{lanes-dilate-one, lanes-dilate-more, lanes-dilate-end}
+use Rattle.line.proofs.Parts.{widened-by}
+use Rattle.line.proofs.Strides.{lanes-split, lanes-dilate-one, lanes-dilate-more, lanes-dilate-end}
 use borrow.Author.Needs.{needs}
 use Rattle.line.proofs.lanes.dilate_lanes.Statement.{statement}
 use Rattle.line.proofs.lanes.dilate_lanes.Tie as tie
@@ -25,8 +26,8 @@ growth-requires c κs = search needs
 add-w : tie.Need-add-w Inv-loop μ-loop
 add-w c = search needs
 
-mul-widen : tie.Need-mul-widen Inv-loop μ-loop
-mul-widen c =
+mul-brighten : tie.Need-mul-brighten Inv-loop μ-loop
+mul-brighten c =
     let lanes = c .before .before .before .before .before .args .lanes in
     let pixels = c .before .before .before .before .before .args .pixels in
     let w = c .before .before .before .loop .w in
@@ -34,14 +35,19 @@ mul-widen c =
     let fit : lanes * s ≤ lanes * pixels = mul-le-mul-left lanes (omega arith) in
     omega arith
 
-widen-requires : tie.Need-widen-requires Inv-loop μ-loop
-widen-requires c κs =
+sub-brighten : tie.Need-sub-brighten Inv-loop μ-loop
+sub-brighten c = search needs
+
+mul-brighten-2 : tie.Need-mul-brighten-2 Inv-loop μ-loop
+mul-brighten-2 c =
     let lanes = c .before .before .before .before .before .args .lanes in
     let pixels = c .before .before .before .before .before .args .pixels in
-    let w = c .before .before .before .loop .w in
     let s = c .before .growth .result in
-    let fit : lanes * s ≤ lanes * pixels = mul-le-mul-left lanes (omega arith) in
-    omega (arith, c .before .before .before .loop .inv .0, c .before .before .before .before .before .pre .2)
+    let fit : lanes * (pixels - s) ≤ lanes * pixels = mul-le-mul-left lanes (omega arith) in
+    omega arith
+
+brighten-requires : tie.Need-brighten-requires Inv-loop μ-loop
+brighten-requires c κs = search needs
 
 loop-less : tie.Need-loop-less Inv-loop μ-loop
 loop-less c = search needs
@@ -54,11 +60,13 @@ loop-again c =
     let pre = c .before .before .before .before .before .before .before .before .pre in
     let at = c .before .before .before .before .before .before .loop in
     let grown = c .before .before .before .before .growth in
-    let pass = c .before .before .widen in (
+    let pass = c .before .before .brighten in
+    let s = grown .result in
+    let whole : lanes * s + lanes * (pixels - s) ≡ lanes * pixels = lanes-split lanes pixels s (omega (arith, grown .ensures, at .inv, pre)) in (
       omega (arith, pass .kept .0, at .inv .0),
       omega (arith, at .inv),
       omega (arith, grown .ensures, at .inv),
-      lanes-dilate-more lanes pixels (at .w) (grown .result) (at .inv .3) (pass .ensures) (omega (arith, at .inv .0, pre .2))
+      lanes-dilate-more lanes pixels (at .w) (grown .result) (at .inv .3) (widened-by _ _ (pass .ensures) whole (omega (arith, at .inv .0, pre .2))) (omega (arith, at .inv .0, pre .2))
           (omega (arith, grown .ensures)) (omega (arith, grown .ensures, at .inv, pre)),
     )
 
@@ -77,8 +85,10 @@ dilate-lanes-spec =
     loop-holds
     growth-requires
     add-w
-    mul-widen
-    widen-requires
+    mul-brighten
+    sub-brighten
+    mul-brighten-2
+    brighten-requires
     loop-less
     loop-again
     same-length

@@ -4,6 +4,7 @@ use Prim.Native.Nat.{_+_, _-_, _*_, _≤_}
 use native.Mathlib.Omega.{arith}
 use lib.ListN
 use Rattle.line.specs.Passes.{ErodesLanes}
+use Rattle.line.proofs.Parts.{narrowed-by}
 use Rattle.line.proofs.Strides.{lanes-fit, lanes-erode-one, lanes-erode-more, lanes-erode-end}
 use borrow.Author.Needs.{needs}
 use Rattle.line.proofs.lanes.erode_lanes.Statement.{statement}
@@ -24,14 +25,8 @@ growth-requires c κs = search needs
 add-w : tie.Need-add-w Inv-loop μ-loop
 add-w c = search needs
 
-sub-narrow : tie.Need-sub-narrow Inv-loop μ-loop
-sub-narrow c = search needs
-
-add-narrow : tie.Need-add-narrow Inv-loop μ-loop
-add-narrow c = search needs
-
-mul-narrow : tie.Need-mul-narrow Inv-loop μ-loop
-mul-narrow c =
+mul-darken : tie.Need-mul-darken Inv-loop μ-loop
+mul-darken c =
     let lanes = c .before .before .before .before .before .args .lanes in
     let pixels = c .before .before .before .before .before .args .pixels in
     let w = c .before .before .before .loop .w in
@@ -39,8 +34,14 @@ mul-narrow c =
     let fit : lanes * (pixels - (w + s) + 1) + lanes * s ≤ lanes * pixels = lanes-fit lanes pixels w s (omega arith) (omega arith) in
     omega arith
 
-mul-narrow-2 : tie.Need-mul-narrow-2 Inv-loop μ-loop
-mul-narrow-2 c =
+sub-darken : tie.Need-sub-darken Inv-loop μ-loop
+sub-darken c = search needs
+
+add-darken : tie.Need-add-darken Inv-loop μ-loop
+add-darken c = search needs
+
+mul-darken-2 : tie.Need-mul-darken-2 Inv-loop μ-loop
+mul-darken-2 c =
     let lanes = c .before .before .before .before .before .args .lanes in
     let pixels = c .before .before .before .before .before .args .pixels in
     let w = c .before .before .before .loop .w in
@@ -48,14 +49,8 @@ mul-narrow-2 c =
     let fit : lanes * (pixels - (w + s) + 1) + lanes * s ≤ lanes * pixels = lanes-fit lanes pixels w s (omega arith) (omega arith) in
     omega arith
 
-narrow-requires : tie.Need-narrow-requires Inv-loop μ-loop
-narrow-requires c κs =
-    let lanes = c .before .before .before .before .before .args .lanes in
-    let pixels = c .before .before .before .before .before .args .pixels in
-    let w = c .before .before .before .loop .w in
-    let s = c .before .growth .result in
-    let fit : lanes * (pixels - (w + s) + 1) + lanes * s ≤ lanes * pixels = lanes-fit lanes pixels w s (omega arith) (omega arith) in
-    omega (arith, c .before .before .before .loop .inv .0, c .before .before .before .before .before .pre .2)
+darken-requires : tie.Need-darken-requires Inv-loop μ-loop
+darken-requires c κs = search needs
 
 loop-less : tie.Need-loop-less Inv-loop μ-loop
 loop-less c = search needs
@@ -68,11 +63,13 @@ loop-again c =
     let pre = c .before .before .before .before .before .before .before .before .pre in
     let at = c .before .before .before .before .before .before .loop in
     let grown = c .before .before .before .before .growth in
-    let pass = c .before .before .narrow in (
+    let pass = c .before .before .darken in
+    let fit : lanes * (pixels - (at .w + grown .result) + 1) + lanes * grown .result ≤ lanes * pixels =
+    lanes-fit lanes pixels (at .w) (grown .result) (omega arith) (omega (arith, grown .ensures, at .inv, pre)) in (
       omega (arith, pass .kept .0, at .inv .0),
       omega (arith, at .inv),
       omega (arith, grown .ensures, at .inv),
-      lanes-erode-more lanes pixels (at .w) (grown .result) (at .inv .3) (pass .ensures) (omega (arith, at .inv)) (omega (arith, grown .ensures))
+      lanes-erode-more lanes pixels (at .w) (grown .result) (at .inv .3) (narrowed-by _ _ (pass .ensures) (omega (arith, at .inv .0, pre .2))) (omega (arith, at .inv)) (omega (arith, grown .ensures))
           (omega (arith, grown .ensures, at .inv, pre)),
     )
 
@@ -91,11 +88,11 @@ erode-lanes-spec =
     loop-holds
     growth-requires
     add-w
-    sub-narrow
-    add-narrow
-    mul-narrow
-    mul-narrow-2
-    narrow-requires
+    mul-darken
+    sub-darken
+    add-darken
+    mul-darken-2
+    darken-requires
     loop-less
     loop-again
     same-length

@@ -24,7 +24,7 @@ returns c =
     let args = c .before .before .before .before .before .before .before .before .before .before .args in
     let src = args .src .now in
     let length = args .length in
-    let copied = filled-copy src (c .before .before .before .before .before .before .copy .ensures) refl
+    let copied = filled-copy src (c .before .before .before .before .before .before .copy .ensures .done (omega arith) (omega arith)) refl
     (c .before .before .before .before .before .before .before .before .before .before .pre .1) in
     opens-alone (c .before .before .open-all .ensures) (omega arith) (omega arith) ∙ ap (λ (l : List ℕ). opened l length) copied
 

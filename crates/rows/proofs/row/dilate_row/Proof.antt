@@ -19,11 +19,11 @@ returns c =
 add-brighten : tie.Need-add-brighten
 add-brighten c = search needs
 
+add-brighten-2 : tie.Need-add-brighten-2
+add-brighten-2 c = search needs
+
 sub-brighten : tie.Need-sub-brighten
 sub-brighten c = search needs
-
-sub-brighten-2 : tie.Need-sub-brighten-2
-sub-brighten-2 c = search needs
 
 brighten-requires : tie.Need-brighten-requires
 brighten-requires c κs = search needs
@@ -53,11 +53,14 @@ returns-3 c =
     let buf = c .before .before .before .args .buf .now in
     dilate-gone buf (from + above) n from a b (gone-left buf from n a b (omega arith))
 
-sub-brighten-3 : tie.Need-sub-brighten-3
-sub-brighten-3 c = search needs
+add-brighten-3 : tie.Need-add-brighten-3
+add-brighten-3 c = search needs
 
-add-brighten-2 : tie.Need-add-brighten-2
-add-brighten-2 c = search needs
+add-brighten-4 : tie.Need-add-brighten-4
+add-brighten-4 c = search needs
+
+sub-brighten-2 : tie.Need-sub-brighten-2
+sub-brighten-2 c = search needs
 
 brighten-requires-2 : tie.Need-brighten-requires-2
 brighten-requires-2 c κs = search needs
@@ -80,15 +83,16 @@ dilate-row-spec =
     (tie.spec
     returns
     add-brighten
+    add-brighten-2
     sub-brighten
-    sub-brighten-2
     brighten-requires
     same-length
     returns-2
     sub-aside
     returns-3
-    sub-brighten-3
-    add-brighten-2
+    add-brighten-3
+    add-brighten-4
+    sub-brighten-2
     brighten-requires-2
     same-length-2
     returns-4)

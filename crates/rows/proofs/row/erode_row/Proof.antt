@@ -22,11 +22,14 @@ returns c =
     let buf = c .before .before .before .before .before .before .before .args .buf .now in
     erode-gone at n (at + below) a b (omega arith) (gone-right buf (at + below) n a b (omega arith)) (c .before .before .blacken .ensures)
 
-sub-darken : tie.Need-sub-darken
-sub-darken c = search needs
-
 add-darken : tie.Need-add-darken
 add-darken c = search needs
+
+add-darken-2 : tie.Need-add-darken-2
+add-darken-2 c = search needs
+
+sub-darken : tie.Need-sub-darken
+sub-darken c = search needs
 
 darken-requires : tie.Need-darken-requires
 darken-requires c κs = search needs
@@ -73,14 +76,14 @@ returns-3 c =
     let buf = c .before .before .before .before .before .before .before .args .buf .now in
     erode-gone at n (at + below) a b (omega arith) (gone-left buf (at + below) n a b (omega arith)) (c .before .before .blacken3 .ensures)
 
-add-darken-2 : tie.Need-add-darken-2
-add-darken-2 c = search needs
+add-darken-3 : tie.Need-add-darken-3
+add-darken-3 c = search needs
+
+add-darken-4 : tie.Need-add-darken-4
+add-darken-4 c = search needs
 
 sub-darken-2 : tie.Need-sub-darken-2
 sub-darken-2 c = search needs
-
-sub-darken-3 : tie.Need-sub-darken-3
-sub-darken-3 c = search needs
 
 darken-requires-2 : tie.Need-darken-requires-2
 darken-requires-2 c κs = search needs
@@ -109,8 +112,9 @@ erode-row-spec =
     blacken-requires
     same-length
     returns
-    sub-darken
     add-darken
+    add-darken-2
+    sub-darken
     darken-requires
     sub-blacken
     add-blacken
@@ -121,9 +125,9 @@ erode-row-spec =
     blacken-requires-3
     same-length-3
     returns-3
-    add-darken-2
+    add-darken-3
+    add-darken-4
     sub-darken-2
-    sub-darken-3
     darken-requires-2
     blacken-requires-4
     same-length-4

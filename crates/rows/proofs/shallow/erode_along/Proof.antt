@@ -1,14 +1,16 @@
 -- The frame holds its lines eroded by windows of w pixels.
-use mathlib.Core.Path.{_≡_, refl, _∙_}
+use mathlib.Core.Path.{_≡_, refl, sym, _∙_}
 use Prim.Native.Nat.{_-_, _*_, _≤_}
 use native.Mathlib.Nat.{mul-le-mul}
 use native.Mathlib.Omega.{arith}
+use lib.Seq.{length-take-le}
 use lib.ListN
 use Rattle.answer.specs.Limits.{longest, steepest}
 use Rattle.frame.specs.Sweep.{shift}
 use Rattle.rows.specs.Rows.{spot}
 use Rattle.rows.specs.Passes.{ErodesLines}
 use Rattle.rows.proofs.Lines.{eroded-start, eroded-step, erodes-end}
+use Rattle.rows.proofs.Bends.{marks-fit, marked-by}
 use Rattle.rows.proofs.Slants.{eroded-lines}
 use borrow.Author.Needs.{needs}
 use Rattle.rows.proofs.shallow.erode_along.Statement.{statement}
@@ -50,18 +52,28 @@ mark-bends-requires c κs =
     let sane = pre .0 .sane in
     let at = c .before .before .before .before .before .before .loop in
     let grown = c .before .before .before .before .growth in
-    (omega (arith, pre, at .inv .1), sane .moves, sane .run, sane .slow, omega (arith, sane .majors), omega (arith, grown .ensures, at .inv, pre, sane .majors), refl)
+    (omega (arith, pre, at .inv .1), sane .moves, sane .run, sane .slow, omega (arith, grown .ensures, at .inv, pre, sane .majors), refl)
+
+slice-reshare-prefix-erode-slants : tie.Need-slice-reshare-prefix-erode-slants Inv-loop μ-loop
+slice-reshare-prefix-erode-slants c =
+    let marked = c .before .before .before .mark-bends in
+    marks-fit (marked .ensures .1) (omega (arith, c .before .before .before .before .before .before .before .before .before .before .before .before .before .pre, c .before .before .before .before .before .before .before .before .before .before .loop .inv .1, marked .ensures .0))
+
+slice-aggregate-erode-slants : tie.Need-slice-aggregate-erode-slants Inv-loop μ-loop
+slice-aggregate-erode-slants c =
+    let marked = c .before .before .before .before .mark-bends in
+    sym (length-take-le _ _ (marks-fit (marked .ensures .1) (omega (arith, c .before .before .before .before .before .before .before .before .before .before .before .before .before .before .pre, c .before .before .before .before .before .before .before .before .before .before .before .loop .inv .1, marked .ensures .0))))
 
 erode-slants-requires : tie.Need-erode-slants-requires Inv-loop μ-loop
 erode-slants-requires c κs =
     let pre = c .before .before .before .before .before .before .before .before .before .before .before .before .before .before .pre in
+    let s = c .before .before .before .before .before .before .before .before .before .before .before .before .before .before .args .s in
     let slanted = pre .0 in
-    let at = c .before .before .before .before .before .before .before .before .before .before .before .loop in (
+    let at = c .before .before .before .before .before .before .before .before .before .before .before .loop in
+    let marked = c .before .before .before .before .mark-bends in (
       record { sane = slanted .sane; next = slanted .next; apart = slanted .apart; room = omega (arith, slanted .room, at .inv .0) },
-      omega
-          (arith, c .before .before .before .before .before .before .before .before .before .growth .ensures, at .inv, pre),
-      omega
-          (arith, pre, at .inv .1, c .before .before .before .before .mark-bends .ensures .0),
+      omega (arith, c .before .before .before .before .before .before .before .before .before .growth .ensures, at .inv, pre),
+      marked-by s _ _ _ (marked .ensures .1) (omega (arith, pre, at .inv .1, marked .ensures .0)),
     )
 
 add-w : tie.Need-add-w Inv-loop μ-loop
@@ -86,7 +98,7 @@ loop-again c =
       omega (arith, at .inv, grown .ensures),
       record {
         pixels = eroded-step (shift s) (spot s) (s .minors) (s .majors) _ (at .w) (grown .result) (at .inv .4 .pixels)
-            (eroded-lines s _ (grown .result) _ (pre .0 .sane) (pre .0 .next) (marked .ensures .1) (pass .ensures)) (omega (arith, at .inv))
+            (eroded-lines s _ (grown .result) _ (pre .0 .sane) (pre .0 .next) (marked .ensures .2) (pass .ensures)) (omega (arith, at .inv))
             (omega (arith, grown .ensures));
       },
     )
@@ -112,6 +124,8 @@ erode-along-spec =
     div-step
     sub-mark-bends
     mark-bends-requires
+    slice-reshare-prefix-erode-slants
+    slice-aggregate-erode-slants
     erode-slants-requires
     add-w
     loop-less

@@ -1,150 +1,41 @@
--- None, one or both of the rows that the row asks for are in the frame.
-use mathlib.Core.Path.{_≡_, refl}
-use mathlib.Core.Logic.{inl}
-use Prim.Native.Nat.{_+_, _-_, _≤_, _<_}
-use native.Mathlib.Nat.{le-refl}
+-- By the marks, if there are any.
+use mathlib.Core.Logic.{⊎-elim}
 use native.Mathlib.Omega.{arith}
-use lib.ListN.{length}
-use Rattle.rows.proofs.Slants.{start-room, slant-behind, dilate-gone, dilate-last, dilate-both}
+use Rattle.rows.proofs.Slants.{dilate-unmarked}
 use borrow.Author.Needs.{needs}
 use Rattle.rows.proofs.slant.dilate_slant.Statement.{statement}
 use Rattle.rows.proofs.slant.dilate_slant.Tie as tie
 
-sub-left : tie.Need-sub-left
-sub-left c = search needs
-
-returns : tie.Need-returns
-returns c =
-    let args = c .before .before .before .before .args in
-    let s = args .s in
-    let pre = c .before .before .before .before .pre in
-    let slanted = pre .0 in
-    let room = start-room (args .up) (s .minor) (s .majors) (s .minors) (length (args .buf .now)) (args .t) (omega arith) (slanted .room) in
-    dilate-gone s (args .up) (args .bends .now) (args .e) (args .step) (args .buf .now) (args .t) _ refl room (omega arith)
-
-start-requires : tie.Need-start-requires
-start-requires c κs = (c .before .before .before .before .pre .0 .sane, c .before .before .before .before .pre .1)
-
-add-at : tie.Need-add-at
-add-at c =
-    let args = c .before .before .before .before .before .args in
-    let s = args .s in
-    let pre = c .before .before .before .before .before .pre in
-    let slanted = pre .0 in
-    let room = start-room (args .up) (s .minor) (s .majors) (s .minors) (length (args .buf .now)) (args .t) (omega arith) (slanted .room) in
-    omega (arith, room, c .start .ensures)
-
-sub-n : tie.Need-sub-n
-sub-n c = search needs
-
-add-start : tie.Need-add-start
-add-start c = search needs
-
-start-requires-2 : tie.Need-start-requires-2
-start-requires-2 c κs = (c .before .before .before .before .before .before .pre .0 .sane, omega arith)
-
-sub-if2 : tie.Need-sub-if2
-sub-if2 c = search needs
-
-brighten-bent-requires : tie.Need-brighten-bent-requires
-brighten-bent-requires c κs =
-    let args = c .before .before .before .before .before .before .before .before .before .args in
-    let s = args .s in
-    let pre = c .before .before .before .before .before .before .before .before .before .pre in
-    let slanted = pre .0 in
-    let room = start-room (args .up) (s .minor) (s .majors) (s .minors) (length (args .buf .now)) (args .t) (omega arith) (slanted .room) in
-    let next = start-room (args .up) (s .minor) (s .majors) (s .minors) (length (args .buf .now)) (args .t + args .step) (omega arith) (slanted .room) in
-    let here = c .before .before .before .before .start .ensures in
-    let there = c .before .before .start2 .ensures in (
-      omega (arith, room, here),
-      omega (arith, next, there),
-      omega (arith, room, here),
-      omega arith,
-      slant-behind (args .up) (s .minor) (s .majors) (s .minors) (args .t) (args .step) (args .e) (s .majors - args .e) (slanted .apart) (omega arith)
-          (omega arith) _ _ (omega (arith, here)) (there),
-      inl (le-refl _),
-    )
+dilate-straight-requires : tie.Need-dilate-straight-requires
+dilate-straight-requires c κs = (c .before .before .before .before .pre .0, c .before .before .before .before .pre .1, c .before .before .before .before .pre .2)
 
 same-length : tie.Need-same-length
 same-length c = search needs
 
-returns-2 : tie.Need-returns-2
-returns-2 c =
-    let args = c .before .before .before .before .before .before .before .before .before .before .before .before .args in
+returns : tie.Need-returns
+returns c =
+    let args = c .before .before .before .before .before .before .before .args in
     let s = args .s in
-    let pre = c .before .before .before .before .before .before .before .before .before .before .before .before .pre in
-    let slanted = pre .0 in
-    let room = start-room (args .up) (s .minor) (s .majors) (s .minors) (length (args .buf .now)) (args .t) (omega arith) (slanted .room) in
-    let here = c .before .before .before .before .before .before .before .start .ensures in
-    let there = c .before .before .before .before .before .start2 .ensures in
-    dilate-last s (args .up) (args .bends .now) (args .e) (args .step) (args .buf .now) (args .t) _ here (omega (arith, room, here))
-    (s .majors - args .e) _ (omega arith) there (c .before .before .brighten-bent .ensures) (omega arith) (omega arith)
+    dilate-unmarked s (args .up) (args .e) (args .step) (args .buf .now) (args .t) (args .bends .now) (c .before .before .before .before .if1 .taken) (c .before .before .dilate-straight .ensures)
 
-add-start-2 : tie.Need-add-start-2
-add-start-2 c = search needs
-
-add-start-3 : tie.Need-add-start-3
-add-start-3 c = search needs
-
-start-requires-3 : tie.Need-start-requires-3
-start-requires-3 c κs = (c .before .before .before .before .before .before .before .before .pre .0 .sane, omega arith)
-
-brighten-bent-requires-2 : tie.Need-brighten-bent-requires-2
-brighten-bent-requires-2 c κs =
-    let args = c .before .before .before .before .before .before .before .before .before .before .args in
-    let s = args .s in
-    let pre = c .before .before .before .before .before .before .before .before .before .before .pre in
-    let slanted = pre .0 in
-    let room = start-room (args .up) (s .minor) (s .majors) (s .minors) (length (args .buf .now)) (args .t) (omega arith) (slanted .room) in
-    let next = start-room (args .up) (s .minor) (s .majors) (s .minors) (length (args .buf .now)) (args .t + args .step) (omega arith) (slanted .room) in
-    let last = start-room (args .up) (s .minor) (s .majors) (s .minors) (length (args .buf .now)) (args .t + (args .step + 1)) (omega arith) (slanted .room) in
-    let here = c .before .before .before .before .before .start .ensures in
-    let there = c .before .before .before .start2 .ensures in
-    let past = c .before .start3 .ensures in (
-      omega (arith, room, here),
-      omega (arith, next, there),
-      omega (arith, last, past),
-      omega arith,
-      slant-behind (args .up) (s .minor) (s .majors) (s .minors) (args .t) (args .step) (args .e) (s .majors - args .e) (slanted .apart) (omega arith)
-          (omega arith) _ _ (omega (arith, here)) (there),
-      slant-behind (args .up) (s .minor) (s .majors) (s .minors) (args .t) (args .step + 1) (args .e) (s .majors - args .e) (slanted .apart)
-          (omega arith) (omega arith) _ _ (omega (arith, here)) (past),
-    )
+dilate-bent-requires : tie.Need-dilate-bent-requires
+dilate-bent-requires c κs =
+    let pre = c .before .before .before .before .pre in
+    (pre .0, pre .1, pre .2, ⊎-elim (λ none. absurd (omega (arith, c .before .if1 .left))) (λ marks. marks) (pre .3))
 
 same-length-2 : tie.Need-same-length-2
 same-length-2 c = search needs
 
-returns-3 : tie.Need-returns-3
-returns-3 c =
-    let args = c .before .before .before .before .before .before .before .before .before .before .before .before .before .args in
-    let s = args .s in
-    let pre = c .before .before .before .before .before .before .before .before .before .before .before .before .before .pre in
-    let slanted = pre .0 in
-    let room = start-room (args .up) (s .minor) (s .majors) (s .minors) (length (args .buf .now)) (args .t) (omega arith) (slanted .room) in
-    let here = c .before .before .before .before .before .before .before .before .start .ensures in
-    let there = c .before .before .before .before .before .before .start2 .ensures in
-    dilate-both s (args .up) (args .bends .now) (args .e) (args .step) (args .buf .now) (args .t) _ here (omega (arith, room, here))
-    (s .majors - args .e) _ (omega arith) there _ (c .before .before .brighten-bent2 .ensures) (omega arith)
-    (c .before .before .before .before .start3 .ensures)
+returns-2 : tie.Need-returns-2
+returns-2 c = c .before .before .dilate-bent .ensures
 
 pub dilate-slant-spec : {M : Type 1} → statement M
 dilate-slant-spec =
     tie.close
     (tie.spec
-    sub-left
-    returns
-    start-requires
-    add-at
-    sub-n
-    add-start
-    start-requires-2
-    sub-if2
-    brighten-bent-requires
+    dilate-straight-requires
     same-length
-    returns-2
-    add-start-2
-    add-start-3
-    start-requires-3
-    brighten-bent-requires-2
+    returns
+    dilate-bent-requires
     same-length-2
-    returns-3)
+    returns-2)

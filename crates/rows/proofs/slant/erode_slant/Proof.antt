@@ -1,212 +1,41 @@
--- None, one or both of the rows that the row asks for are in the frame.
-use mathlib.Core.Path.{_≡_}
-use mathlib.Core.Logic.{inl}
-use Prim.Native.Nat.{_+_, _-_, _≤_, _<_}
-use native.Mathlib.Nat.{le-refl}
+-- By the marks, if there are any.
+use mathlib.Core.Logic.{⊎-elim}
 use native.Mathlib.Omega.{arith}
-use lib.ListN.{length}
-use Rattle.rows.proofs.Slants.{start-room, slant-ahead, erode-gone, erode-last, erode-both}
+use Rattle.rows.proofs.Slants.{erode-unmarked}
 use borrow.Author.Needs.{needs}
 use Rattle.rows.proofs.slant.erode_slant.Statement.{statement}
 use Rattle.rows.proofs.slant.erode_slant.Tie as tie
 
-sub-left : tie.Need-sub-left
-sub-left c = search needs
-
-start-requires : tie.Need-start-requires
-start-requires c κs = (c .before .before .before .pre .0 .sane, c .before .before .before .pre .1)
-
-blacken-requires : tie.Need-blacken-requires
-blacken-requires c κs = search needs
+erode-straight-requires : tie.Need-erode-straight-requires
+erode-straight-requires c κs = (c .before .before .before .before .pre .0, c .before .before .before .before .pre .1, c .before .before .before .before .pre .2)
 
 same-length : tie.Need-same-length
 same-length c = search needs
 
 returns : tie.Need-returns
 returns c =
-    let args = c .before .before .before .before .before .before .before .before .before .args in
-    let s = args .s in
-    let pre = c .before .before .before .before .before .before .before .before .before .pre in
-    let slanted = pre .0 in
-    let room = start-room (args .up) (s .minor) (s .majors) (s .minors) (length (args .buf .now)) (args .t) (omega arith) (slanted .room) in
-    erode-gone s (args .up) (args .bends .now) (args .e) (args .step) (args .buf .now) (args .t) _
-    (c .before .before .before .before .before .start .ensures) (omega (arith, room, c .before .before .before .before .before .start .ensures))
-    (c .before .before .blacken .ensures) (omega arith)
-
-sub-n : tie.Need-sub-n
-sub-n c = search needs
-
-add-start : tie.Need-add-start
-add-start c = search needs
-
-start-requires-2 : tie.Need-start-requires-2
-start-requires-2 c κs = (c .before .before .before .before .before .before .pre .0 .sane, omega arith)
-
-add-near : tie.Need-add-near
-add-near c =
     let args = c .before .before .before .before .before .before .before .args in
     let s = args .s in
-    let pre = c .before .before .before .before .before .before .before .pre in
-    let slanted = pre .0 in
-    let room = start-room (args .up) (s .minor) (s .majors) (s .minors) (length (args .buf .now)) (args .t + args .step) (omega arith) (slanted .room) in
-    omega (arith, room, c .start2 .ensures)
+    erode-unmarked s (args .up) (args .e) (args .step) (args .buf .now) (args .t) (args .bends .now) (c .before .before .before .before .if1 .taken) (c .before .before .erode-straight .ensures)
 
-sub-if2 : tie.Need-sub-if2
-sub-if2 c = search needs
-
-darken-bent-requires : tie.Need-darken-bent-requires
-darken-bent-requires c κs =
-    let args = c .before .before .before .before .before .before .before .before .before .args in
-    let s = args .s in
-    let pre = c .before .before .before .before .before .before .before .before .before .pre in
-    let slanted = pre .0 in
-    let room = start-room (args .up) (s .minor) (s .majors) (s .minors) (length (args .buf .now)) (args .t) (omega arith) (slanted .room) in
-    let next = start-room (args .up) (s .minor) (s .majors) (s .minors) (length (args .buf .now)) (args .t + args .step) (omega arith) (slanted .room) in
-    let here = c .before .before .before .before .before .start .ensures in
-    let there = c .before .before .start2 .ensures in (
-      omega (arith, room, here),
-      omega (arith, next, there),
-      omega (arith, room, here),
-      omega arith,
-      slant-ahead (args .up) (s .minor) (s .majors) (s .minors) (args .t) (args .step) (args .e) (s .majors - args .e) (slanted .apart) (omega arith)
-          (omega arith) _ _ (here) (omega (arith, there)),
-      inl (le-refl _),
-    )
-
-blacken-bent-requires : tie.Need-blacken-bent-requires
-blacken-bent-requires c κs =
-    let args = c .before .before .before .before .before .before .before .before .before .before .before .before .before .args in
-    let s = args .s in
-    let pre = c .before .before .before .before .before .before .before .before .before .before .before .before .before .pre in
-    let slanted = pre .0 in
-    let room = start-room (args .up) (s .minor) (s .majors) (s .minors) (length (args .buf .now)) (args .t) (omega arith) (slanted .room) in
-    let dark = c .before .before .before .darken-bent .ensures in
-    (omega (arith, room, c .before .before .before .before .before .before .before .before .before .start .ensures, dark .same), omega arith)
-
-add-blacken : tie.Need-add-blacken
-add-blacken c =
-    let args = c .before .before .before .before .before .before .before .before .before .before .before .before .before .before .before .before .before .args in
-    let s = args .s in
-    let pre = c .before .before .before .before .before .before .before .before .before .before .before .before .before .before .before .before .before .pre in
-    let slanted = pre .0 in
-    let room = start-room (args .up) (s .minor) (s .majors) (s .minors) (length (args .buf .now)) (args .t) (omega arith) (slanted .room) in
-    omega (arith, room, c .before .before .before .before .before .before .before .before .before .before .before .before .before .start .ensures)
-
-blacken-requires-2 : tie.Need-blacken-requires-2
-blacken-requires-2 c κs = search needs
+erode-bent-requires : tie.Need-erode-bent-requires
+erode-bent-requires c κs =
+    let pre = c .before .before .before .before .pre in
+    (pre .0, pre .1, pre .2, ⊎-elim (λ none. absurd (omega (arith, c .before .if1 .left))) (λ marks. marks) (pre .3))
 
 same-length-2 : tie.Need-same-length-2
 same-length-2 c = search needs
 
 returns-2 : tie.Need-returns-2
-returns-2 c =
-    let args = c .before .before .before .before .before .before .before .before .before .before .before .before .before .before .before .before .before .before .before .before .args in
-    let s = args .s in
-    let pre = c .before .before .before .before .before .before .before .before .before .before .before .before .before .before .before .before .before .before .before .before .pre in
-    let slanted = pre .0 in
-    let room = start-room (args .up) (s .minor) (s .majors) (s .minors) (length (args .buf .now)) (args .t) (omega arith) (slanted .room) in
-    let here = c .before .before .before .before .before .before .before .before .before .before .before .before .before .before .before .before .start .ensures in
-    let there = c .before .before .before .before .before .before .before .before .before .before .before .before .before .start2 .ensures in
-    erode-last s (args .up) (args .bends .now) (args .e) (args .step) (args .buf .now) (args .t) _ here (omega (arith, room, here))
-    (s .majors - args .e) _ (omega arith) (omega (arith, there))
-    (c .before .before .before .before .before .before .before .before .before .before .darken-bent .ensures)
-    (c .before .before .before .before .before .before .blacken-bent .ensures) (c .before .before .blacken2 .ensures) (omega arith) (omega arith)
-
-add-start-2 : tie.Need-add-start-2
-add-start-2 c = search needs
-
-add-start-3 : tie.Need-add-start-3
-add-start-3 c = search needs
-
-start-requires-3 : tie.Need-start-requires-3
-start-requires-3 c κs = (c .before .before .before .before .before .before .before .before .pre .0 .sane, omega arith)
-
-add-far : tie.Need-add-far
-add-far c =
-    let args = c .before .before .before .before .before .before .before .before .before .args in
-    let s = args .s in
-    let pre = c .before .before .before .before .before .before .before .before .before .pre in
-    let slanted = pre .0 in
-    let room = start-room (args .up) (s .minor) (s .majors) (s .minors) (length (args .buf .now)) (args .t + (args .step + 1)) (omega arith) (slanted .room) in
-    omega (arith, room, c .start3 .ensures)
-
-darken-bent-requires-2 : tie.Need-darken-bent-requires-2
-darken-bent-requires-2 c κs =
-    let args = c .before .before .before .before .before .before .before .before .before .before .args in
-    let s = args .s in
-    let pre = c .before .before .before .before .before .before .before .before .before .before .pre in
-    let slanted = pre .0 in
-    let room = start-room (args .up) (s .minor) (s .majors) (s .minors) (length (args .buf .now)) (args .t) (omega arith) (slanted .room) in
-    let next = start-room (args .up) (s .minor) (s .majors) (s .minors) (length (args .buf .now)) (args .t + args .step) (omega arith) (slanted .room) in
-    let last = start-room (args .up) (s .minor) (s .majors) (s .minors) (length (args .buf .now)) (args .t + (args .step + 1)) (omega arith) (slanted .room) in
-    let here = c .before .before .before .before .before .before .start .ensures in
-    let there = c .before .before .before .start2 .ensures in
-    let past = c .before .start3 .ensures in (
-      omega (arith, room, here),
-      omega (arith, next, there),
-      omega (arith, last, past),
-      omega arith,
-      slant-ahead (args .up) (s .minor) (s .majors) (s .minors) (args .t) (args .step) (args .e) (s .majors - args .e) (slanted .apart) (omega arith)
-          (omega arith) _ _ (here) (omega (arith, there)),
-      slant-ahead (args .up) (s .minor) (s .majors) (s .minors) (args .t) (args .step + 1) (args .e) (s .majors - args .e) (slanted .apart)
-          (omega arith) (omega arith) _ _ (here) (omega (arith, past)),
-    )
-
-add-blacken-2 : tie.Need-add-blacken-2
-add-blacken-2 c =
-    let args = c .before .before .before .before .before .before .before .before .before .before .before .before .before .before .args in
-    let s = args .s in
-    let pre = c .before .before .before .before .before .before .before .before .before .before .before .before .before .before .pre in
-    let slanted = pre .0 in
-    let room = start-room (args .up) (s .minor) (s .majors) (s .minors) (length (args .buf .now)) (args .t) (omega arith) (slanted .room) in
-    omega (arith, room, c .before .before .before .before .before .before .before .before .before .before .start .ensures)
-
-blacken-requires-3 : tie.Need-blacken-requires-3
-blacken-requires-3 c κs = search needs
-
-same-length-3 : tie.Need-same-length-3
-same-length-3 c = search needs
-
-returns-3 : tie.Need-returns-3
-returns-3 c =
-    let args = c .before .before .before .before .before .before .before .before .before .before .before .before .before .before .before .before .before .args in
-    let s = args .s in
-    let pre = c .before .before .before .before .before .before .before .before .before .before .before .before .before .before .before .before .before .pre in
-    let slanted = pre .0 in
-    let room = start-room (args .up) (s .minor) (s .majors) (s .minors) (length (args .buf .now)) (args .t) (omega arith) (slanted .room) in
-    let here = c .before .before .before .before .before .before .before .before .before .before .before .before .before .start .ensures in
-    let there = c .before .before .before .before .before .before .before .before .before .before .start2 .ensures in
-    erode-both s (args .up) (args .bends .now) (args .e) (args .step) (args .buf .now) (args .t) _ here (omega (arith, room, here))
-    (s .majors - args .e) _ (omega arith) (omega (arith, there)) _ (c .before .before .before .before .before .before .darken-bent2 .ensures)
-    (c .before .before .blacken3 .ensures) (omega arith)
-    (omega (arith, c .before .before .before .before .before .before .before .before .start3 .ensures))
+returns-2 c = c .before .before .erode-bent .ensures
 
 pub erode-slant-spec : {M : Type 1} → statement M
 erode-slant-spec =
     tie.close
     (tie.spec
-    sub-left
-    start-requires
-    blacken-requires
+    erode-straight-requires
     same-length
     returns
-    sub-n
-    add-start
-    start-requires-2
-    add-near
-    sub-if2
-    darken-bent-requires
-    blacken-bent-requires
-    add-blacken
-    blacken-requires-2
+    erode-bent-requires
     same-length-2
-    returns-2
-    add-start-2
-    add-start-3
-    start-requires-3
-    add-far
-    darken-bent-requires-2
-    add-blacken-2
-    blacken-requires-3
-    same-length-3
-    returns-3)
+    returns-2)

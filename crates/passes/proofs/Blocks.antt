@@ -1,0 +1,148 @@
+-- A pass by blocks or byte by byte, in place, whatever its partners are: what it has yet to read is as it was where it began.
+--   Awaits partner at n              a pass upward over the n bytes from `at` on finds partner j as it was until it has come to byte j
+--   Outlasts partner at n            the same of a pass downward
+--   straight-awaits, bent-awaits     partners in a row ahead, or in two of them
+--   straight-outlasts, bent-outlasts partners in a row behind, or in two of them
+--   one-of                           one of two numbers
+--   bent-is                          the byte that a mark names
+--   met-is                           what a turn makes of what it reads
+--   met-ahead, met-behind            the same of what it finds, in terms of where the pass began: upward, and downward
+--   met-block, met-block-before      a block of c bytes more, behind the others or before them
+--   met-last, met-first              a block that was made first and is stored last
+-- Assumes nothing.
+use mathlib.Core.Path.{_≡_, refl, sym, ap, ap₂, _∙_}
+use mathlib.Core.Bool.{Bool, true, false, cond}
+use mathlib.Core.List.{List}
+use mathlib.Core.Logic.{⊎-elim}
+use Prim.Native.Nat.{ℕ, _+_, _-_, _≤_, _<_, max}
+use native.Mathlib.Nat.{le-refl}
+use native.Mathlib.Omega.{arith}
+use lib.Dec.{eqb}
+use lib.ListN.{getD}
+use Rattle.lists.specs.Stores.{Filled}
+use Rattle.lists.proofs.Cases.{less-or-not}
+use Rattle.lists.proofs.Stores.{filled-as, filled-end, filled-join, filled-join-before}
+use Rattle.passes.specs.Passes.{straight, bent, met, Ahead, Behind}
+
+-- ---- partners
+
+abbrev pub Awaits : (List ℕ → ℕ → ℕ) → ℕ → ℕ → Type 0
+Awaits partner at n =
+    (g a : List ℕ) (s t : ℕ) (F : ℕ → ℕ) (j : ℕ) → Filled g a s t F → at ≤ s → t ≤ at + j → j < n → partner a j ≡ partner g j
+
+abbrev pub Outlasts : (List ℕ → ℕ → ℕ) → ℕ → ℕ → Type 0
+Outlasts partner at n =
+    (g a : List ℕ) (s t : ℕ) (F : ℕ → ℕ) (j : ℕ) → Filled g a s t F → t ≤ at + n → at + j < s → partner a j ≡ partner g j
+
+pub straight-awaits : (at from n : ℕ) → Ahead at from n → Awaits (straight from) at n
+straight-awaits at from n q g a s t F j f low next here =
+    ⊎-elim
+    (λ behind. f .above (from + j) (omega arith))
+    (λ before. f .below (from + j) (omega arith))
+    q
+
+pub straight-outlasts : (at from n : ℕ) → Behind at from n → Outlasts (straight from) at n
+straight-outlasts at from n q g a s t F j f high here =
+    ⊎-elim
+    (λ before. f .below (from + j) (omega arith))
+    (λ after. f .above (from + j) (omega arith))
+    q
+
+bent-same : (m a g : List ℕ) (near far j : ℕ) → straight near a j ≡ straight near g j → straight far a j ≡ straight far g j → bent m near far a j ≡ bent m near far g j
+unfolding bent
+bent-same m a g near far j e f = ap₂ (λ (u v : ℕ). cond (eqb (getD m j 0) 0) u v) e f
+
+pub bent-awaits : (m : List ℕ) (at near far n : ℕ) → Ahead at near n → Ahead at far n → Awaits (bent m near far) at n
+bent-awaits m at near far n p q g a s t F j f low next here =
+    bent-same m a g near far j (straight-awaits at near n p g a s t F j f low next here) (straight-awaits at far n q g a s t F j f low next here)
+
+pub bent-outlasts : (m : List ℕ) (at near far n : ℕ) → Behind at near n → Behind at far n → Outlasts (bent m near far) at n
+bent-outlasts m at near far n p q g a s t F j f high here =
+    bent-same m a g near far j (straight-outlasts at near n p g a s t F j f high here) (straight-outlasts at far n q g a s t F j f high here)
+
+-- of two numbers, one of them taken as 0
+pub one-of : (b : Bool) (x y : ℕ) → max (cond b x 0) (cond b 0 y) ≡ cond b x y
+one-of true x y = omega arith
+one-of false x y = omega arith
+
+pub bent-is : (m : List ℕ) (near far : ℕ) (g : List ℕ) (j : ℕ) → cond (eqb (getD m j 0) 0) (getD g (near + j) 0) (getD g (far + j) 0) ≡ bent m near far g j
+unfolding bent
+bent-is m near far g j = refl
+
+-- ---- a pass
+
+module _ (op : ℕ → ℕ → ℕ) (partner : List ℕ → ℕ → ℕ) (at : ℕ) where
+  pub met-is : (g : List ℕ) (j x : ℕ) → at + j ≡ x → op (getD g (at + j) 0) (partner g j) ≡ met op partner at g x
+  met-is g j x e =
+      let there : j ≡ x - at = omega arith in
+      ap₂ op (ap (λ (y : ℕ). getD g y 0) e) (ap (λ (y : ℕ). partner g y) there)
+
+  -- t was made of g at at + i, is stored there, and c bytes long
+  module _ (g : List ℕ) {a b : List ℕ} (c : ℕ) (t : List ℕ) (i s : ℕ)
+      (v : (k : ℕ) → k < c → getD t k 0 ≡ op (getD g (at + (i + k)) 0) (partner g (i + k)))
+      (p : Filled a b s (s + c) (λ (k : ℕ). getD t (k - s) 0)) (here : s ≡ at + i) where
+    made : (x : ℕ) → s ≤ x → x < s + c → getD b x 0 ≡ met op partner at g x
+    made x l h =
+        let e : at + (i + (x - s)) ≡ x = omega arith in
+        p .within x l h ∙ v (x - s) (omega arith) ∙ met-is g (i + (x - s)) x e
+
+    pub met-last : {mid n : ℕ} → Filled g a at mid (met op partner at g) → s ≤ mid → mid ≤ at + n → i + c ≡ n → Filled g b at (at + n) (met op partner at g)
+    met-last {mid} {n} f low high end =
+        record {
+          same = p .same ∙ f .same;
+          within = λ x l h. ⊎-elim (λ q. p .below x q ∙ f .within x l (omega arith)) (λ q. made x q (omega arith)) (less-or-not x s);
+          below = λ x h. p .below x (omega arith) ∙ f .below x h;
+          above = λ x h. p .above x (omega arith) ∙ f .above x (omega arith);
+        }
+
+    pub met-first : {mid n : ℕ} → Filled g a mid (at + n) (met op partner at g) → at ≤ mid → mid ≤ at + c → c ≤ n → i ≡ 0 → Filled g b at (at + n) (met op partner at g)
+    met-first {mid} {n} f low high some start =
+        record {
+          same = p .same ∙ f .same;
+          within = λ x l h. ⊎-elim (λ q. made x (omega arith) (omega arith)) (λ q. p .above x (omega arith) ∙ f .within x (omega arith) h) (less-or-not x (at + c));
+          below = λ x h. p .below x (omega arith) ∙ f .below x (omega arith);
+          above = λ x h. p .above x (omega arith) ∙ f .above x h;
+        }
+
+  -- ---- upward
+
+  module _ (n : ℕ) (await : Awaits partner at n) where
+    pub met-ahead : {g a : List ℕ} {s t : ℕ} {F : ℕ → ℕ} (x : ℕ) → Filled g a s t F → at ≤ s → s ≤ t → t ≤ x → x < at + n → met op partner at a x ≡ met op partner at g x
+    met-ahead {g} {a} {s} {t} {F} x f low some next here =
+        ap₂ op (f .above x next) (await g a s t F (x - at) f low (omega arith) (omega arith))
+
+    -- t is the block of c bytes at at + i
+    pub met-block : {g a b : List ℕ} (c : ℕ) (t : List ℕ) (i : ℕ) → Filled g a at (at + i) (met op partner at g) → i + c ≤ n
+        → ((k : ℕ) → k < c → getD t k 0 ≡ op (getD a (at + (i + k)) 0) (partner a (i + k)))
+        → Filled a b (at + i) (at + i + c) (λ (k : ℕ). getD t (k - (at + i)) 0)
+        → Filled g b at (at + (i + c)) (met op partner at g)
+    met-block {g} {a} {b} c t i f room v p =
+        filled-end
+        (filled-join f
+        (filled-as p (met op partner at g)
+        (λ x l h.
+        let e : at + (i + (x - (at + i))) ≡ x = omega arith in
+        v (x - (at + i)) (omega arith) ∙ met-is a (i + (x - (at + i))) x e ∙ met-ahead x f (le-refl at) (omega arith) l (omega arith)))
+        (omega arith) (omega arith))
+        (omega arith)
+
+  -- ---- downward
+
+  module _ (n : ℕ) (outlast : Outlasts partner at n) where
+    pub met-behind : {g a : List ℕ} {s t : ℕ} {F : ℕ → ℕ} (x : ℕ) → Filled g a s t F → t ≤ at + n → at ≤ x → x < s → met op partner at a x ≡ met op partner at g x
+    met-behind {g} {a} {s} {t} {F} x f high low next = ap₂ op (f .below x next) (outlast g a s t F (x - at) f high (omega arith))
+
+    -- t is the block of c bytes at at + i
+    pub met-block-before : {g a b : List ℕ} {lo : ℕ} (c : ℕ) (t : List ℕ) (i : ℕ) → Filled g a lo (at + n) (met op partner at g) → lo ≡ at + i + c → lo ≤ at + n
+        → ((k : ℕ) → k < c → getD t k 0 ≡ op (getD a (at + (i + k)) 0) (partner a (i + k)))
+        → Filled a b (at + i) (at + i + c) (λ (k : ℕ). getD t (k - (at + i)) 0)
+        → Filled g b (at + i) (at + n) (met op partner at g)
+    met-block-before {g} {a} {b} {lo} c t i f start room v p =
+        filled-join-before f
+        (filled-end
+        (filled-as p (met op partner at g)
+        (λ x l h.
+        let e : at + (i + (x - (at + i))) ≡ x = omega arith in
+        v (x - (at + i)) (omega arith) ∙ met-is a (i + (x - (at + i))) x e ∙ met-behind x f (le-refl (at + n)) (omega arith) (omega arith)))
+        (sym start))
+        (omega arith) room

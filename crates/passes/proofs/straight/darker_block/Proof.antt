@@ -1,0 +1,74 @@
+-- The first j values of the block are in t.
+use mathlib.Core.Path.{_≡_}
+use Prim.Native.Nat.{ℕ, _+_, _-_, _≤_, min, zero-le}
+use native.Mathlib.Omega.{arith}
+use lib.ListN.{length, getD}
+use Rattle.lists.specs.Stores.{Filled}
+use Rattle.lists.proofs.Stores.{filled-none, filled-more}
+use Rattle.passes.specs.Passes.{straight}
+use borrow.Author.Needs.{needs}
+use Rattle.passes.proofs.straight.darker_block.Statement.{statement}
+use Rattle.passes.proofs.straight.darker_block.Tie as tie
+
+abbrev Inv-loop : tie.InvT-loop
+Inv-loop buf at from i t₀ j₀ t j = (j ≤ 32) × (length t₀ ≡ 32) × Filled t₀ t 0 j (λ (k : ℕ). min (getD buf (at + (i + k)) 0) (straight from buf (i + k)))
+
+abbrev μ-loop : tie.MeasureT-loop
+μ-loop buf at from i t₀ j₀ t j = 32 - j
+
+loop-holds : tie.Need-loop-holds Inv-loop μ-loop
+loop-holds c = (omega arith, search needs, filled-none _ _ _)
+
+add-k : tie.Need-add-k Inv-loop μ-loop
+add-k c = search needs
+
+add-darker : tie.Need-add-darker Inv-loop μ-loop
+add-darker c = search needs
+
+shared-slice-read-darker : tie.Need-shared-slice-read-darker Inv-loop μ-loop
+shared-slice-read-darker c = search needs
+
+add-darker-2 : tie.Need-add-darker-2 Inv-loop μ-loop
+add-darker-2 c = search needs
+
+shared-slice-read-darker-2 : tie.Need-shared-slice-read-darker-2 Inv-loop μ-loop
+shared-slice-read-darker-2 c = search needs
+
+darker-requires : tie.Need-darker-requires Inv-loop μ-loop
+darker-requires c κs = search needs
+
+array-write-t : tie.Need-array-write-t Inv-loop μ-loop
+array-write-t c = search needs
+
+add-j : tie.Need-add-j Inv-loop μ-loop
+add-j c = search needs
+
+loop-less : tie.Need-loop-less Inv-loop μ-loop
+loop-less c = search needs
+
+loop-again : tie.Need-loop-again Inv-loop μ-loop
+loop-again c =
+    let filled = c .before .before .before .before .loop .inv .2 in
+    (omega arith, search needs, filled-more filled (omega arith) (omega (arith, filled .same)) (c .darker .ensures))
+
+returns : tie.Need-returns Inv-loop μ-loop
+returns c = λ k h. c .before .loop .inv .2 .within k zero-le (omega arith)
+
+pub darker-block-spec : {M : Type 1} → statement M
+darker-block-spec =
+    tie.close
+    (tie.spec
+    Inv-loop
+    μ-loop
+    loop-holds
+    add-k
+    add-darker
+    shared-slice-read-darker
+    add-darker-2
+    shared-slice-read-darker-2
+    darker-requires
+    array-write-t
+    add-j
+    loop-less
+    loop-again
+    returns)

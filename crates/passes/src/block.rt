@@ -1,0 +1,28 @@
+// Blocks of 32 bytes by value: a pass has read all of a block before it writes any of it, so it works in place and compiles to vector instructions.
+ghost use mathlib.Core.Path.{_≡_};
+ghost use Prim.Native.Nat.{ℕ, _+_, _-_, _≤_, min, max};
+ghost use lib.ListN.{length, getD};
+ghost use Rattle.lists.specs.Stores.{Filled};
+
+pub(crate) fn darker(a: u8, b: u8) -> u8
+    ensures { λ r. ⌜ r ≡ min a b ⌝ }
+{
+    if a < b { a } else { b }
+}
+
+pub(crate) fn brighter(a: u8, b: u8) -> u8
+    ensures { λ r. ⌜ r ≡ max a b ⌝ }
+{
+    if a < b { b } else { a }
+}
+
+pub(crate) fn put_block(buf: &mut [u8], at: usize, t: [u8; 32])
+    requires { ⌜ at + 32 ≤ length (now buf) ⌝ }
+    ensures { λ _. ⌜ Filled (now (buf .entry)) (now (buf .exit)) at (at + 32) (λ (k : ℕ). getD t (k - at) 0) ⌝ }
+{
+    let mut j = 0;
+    while j < 32 {
+        buf[at + j] = t[j];
+        j += 1;
+    }
+}

@@ -1,0 +1,16 @@
+// Passes over bytes, in place: each byte meets another at its place in a second row, and becomes the darker or the brighter of the two. This is where
+// the time of an opening goes, so the loops are flat, go by blocks, and compile to vector instructions. Every call is total: it tests once what its loops
+// rely on, and changes nothing where that is not so.
+mod bent;
+mod block;
+mod fill;
+mod reach;
+mod straight;
+
+pub use bent::blacken_bent;
+pub use bent::brighten_bent;
+pub use bent::darken_bent;
+pub use fill::blacken;
+pub use fill::copy;
+pub use straight::brighten;
+pub use straight::darken;
