@@ -1,6 +1,6 @@
 -- A line that is dark beyond its end: erosion and dilation with a value at every pixel, so that the passes need no ends.
 --   eroded-to-one, eroded-to-more    the passes
---   eroded-to-out, eroded-to-dark    0 past the end, and where the line is dark
+--   eroded-to-past, eroded-to-out, eroded-to-dark    0 where the window leaves the line, past the end, and where the line is dark
 --   reopened-one, reopened-near, reopened-more    the passes
 --   reopened-dark, reopened-whole    0 where the line is dark; with w = L the opening
 -- Assumes nothing.
@@ -25,7 +25,7 @@ module _ (f : List ℕ) where
   unfolding erodedTo
   eroded-to-in w i h = rw (le-leb (i + w) (length f) h)
 
-  eroded-to-past : (w i : ℕ) → length f < i + w → erodedTo f w i ≡ 0
+  pub eroded-to-past : (w i : ℕ) → length f < i + w → erodedTo f w i ≡ 0
   unfolding erodedTo
   eroded-to-past w i h = rw (lt-leb (i + w) (length f) h)
 

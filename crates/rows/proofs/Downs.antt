@@ -2,17 +2,16 @@
 --   side-by-side               so it is in a sweep whose minor step is 1
 --   beside-lane                a pixel's neighbour on its line, in another row
 --   erode-more, dilate-more    one row more of a pass
---   cut-off                    the line ends before the row that a pass would look at
---   rows-before-all            the rows before the first that a dilation changes
+--   erode-rest                 the rows from which a pass of an erosion looks at dark rows only, and those which are dark
+--   rows-before-all, dilate-rest    the rows before the first that a dilation changes, and those behind the last
+--   dilate-dark                the rows that a dilation leaves dark
 -- Assumes nothing.
 use mathlib.Core.Path.{_≡_, refl, sym, ap, ap₂, _∙_, subst}
-use mathlib.Core.Bool.{cond}
 use mathlib.Core.List.{List}
 use mathlib.Core.Logic.{inl, inr, ⊎-elim}
 use Prim.Native.Nat.{ℕ, _+_, _-_, _*_, _≤_, _<_, min, max, zero-le}
 use native.Mathlib.Nat.{add-mul, mul-one, le-refl}
 use native.Mathlib.Omega.{arith}
-use lib.Dec.{ltb}
 use lib.ListN.{getD}
 use borrow.Author.Tests.{lt-ltb, le-ltb}
 use Rattle.lists.specs.Stores.{Filled}
@@ -20,16 +19,12 @@ use Rattle.lists.proofs.Cases.{less-or-not}
 use Rattle.frame.specs.declared.sweep.Sweep.{Sweep}
 use Rattle.rows.specs.Rows.{spot, beside, laneAt, rowsOf, RowsAre}
 use Rattle.rows.specs.Passes.{eroding, dilating}
-use Rattle.rows.proofs.Rowwise.{Parted, row-kept, rows-more, rows-before}
-use Rattle.rows.proofs.Lines.{lane-in, lane-left, lane-right}
+use Rattle.rows.proofs.Rowwise.{Parted, row-kept, rows-more, rows-before, rows-still, rows-as, rows-join}
+use Rattle.rows.proofs.Lines.{lane-in, lane-left, lane-right, lane-dark}
 use Rattle.rows.proofs.Sides.{beside-in, beside-left, beside-right}
 
 pub side-by-side : (s : Sweep) → s .minor ≡ 1 → (i k : ℕ) → spot s i k ≡ i * s .major + k
 side-by-side s e i k = ap (λ (m : ℕ). i * s .major + k * m) e ∙ ap (λ (m : ℕ). i * s .major + m) (mul-one k)
-
--- the line ends before the row that a pass would look at
-pub cut-off : (i e M x v : ℕ) → M ≤ i + e → 0 ≡ min x (cond (ltb (i + e) M) v 0)
-cut-off i e M x v out = rw (le-ltb (i + e) M out) (omega arith)
 
 module _ (h : ℕ → ℕ) (A : ℕ → ℕ → ℕ) (S N M e : ℕ) (place : (i k : ℕ) → A i k ≡ i * S + k) (parted : Parted (rowsOf S) N M) where
   -- in the row j of a buffer a that still has the frame g's pixels there
@@ -86,3 +81,41 @@ module _ (h : ℕ → ℕ) (A : ℕ → ℕ → ℕ) (S N M e : ℕ) (place : (i
         within = λ i k l near n. rw (lt-ltb i e near) (omega (arith, ap (λ (m : ℕ). getD b m 0) (place i k)));
         other = λ x none. refl;
       }
+
+  -- rows from `light` on are dark before the pass
+  module _ (b : List ℕ) (light : ℕ) (dark : (i k : ℕ) → light ≤ i → i < M → k < N → getD b (A i k) 0 ≡ 0) where
+    held-dark : (i k : ℕ) → light ≤ i → i < M → k < N → getD b (i * S + k) 0 ≡ 0
+    held-dark i k from in′ n = ap (λ (m : ℕ). getD b m 0) (sym (place i k)) ∙ dark i k from in′ n
+
+    eroding-dark : (i k : ℕ) → light ≤ i + e → 0 ≡ eroding h A N M e b i k
+    eroding-dark i k from =
+        ⊎-elim
+        (λ in′. rw (lt-ltb (i + e) M in′, lane-dark h A N b (k + h i) (i + e) (λ l n. dark (i + e) l from in′ n)) (omega arith))
+        (λ out. rw (le-ltb (i + e) M out) (omega arith))
+        (less-or-not (i + e) M)
+
+    dilating-dark : (i k : ℕ) → light + e ≤ i → i < M → k < N → dilating h A N e b i k ≡ 0
+    dilating-dark i k from in′ n =
+        rw (le-ltb i e (omega arith), lane-dark h A N b (k + h i) (i - e) (λ l m. dark (i - e) l (omega arith) (omega arith) m), dark i k (omega arith) in′ n)
+        (omega arith)
+
+    pub erode-rest : {a a′ : List ℕ} → RowsAre (rowsOf S) N 0 (light - e) (eroding h A N M e b) b a → RowsAre (rowsOf S) N (light - e) light (λ (i k : ℕ). 0) a a′
+        → light ≤ M → RowsAre (rowsOf S) N 0 M (eroding h A N M e b) b a′
+    erode-rest {a} {a′} upper cleared top = rows-join parted upto still zero-le top (le-refl M)
+      where
+        upto : RowsAre (rowsOf S) N 0 light (eroding h A N M e b) b a′
+        upto = rows-join parted upper (rows-as cleared (eroding h A N M e b) (λ i k l u n. eroding-dark i k (omega arith))) zero-le (omega arith) top
+
+        still : RowsAre (rowsOf S) N light M (eroding h A N M e b) a′ a′
+        still =
+            rows-still (rowsOf S) N light M (eroding h A N M e b) a′
+            (λ i k l u n. row-kept parted upto top i k u n (inr l) ∙ held-dark i k l u n ∙ eroding-dark i k (omega arith))
+
+    pub dilate-rest : RowsAre (rowsOf S) N (light + e) M (dilating h A N e b) b b
+    dilate-rest =
+        rows-still (rowsOf S) N (light + e) M (dilating h A N e b) b
+        (λ i k l u n. held-dark i k (omega arith) u n ∙ sym (dilating-dark i k l u n))
+
+    pub dilate-dark : {a : List ℕ} → RowsAre (rowsOf S) N e M (dilating h A N e b) b a → (i k : ℕ) → light + e ≤ i → i < M → k < N → getD a (A i k) 0 ≡ 0
+    dilate-dark {a} r i k from in′ n =
+        ap (λ (m : ℕ). getD a m 0) (place i k) ∙ r .within i k (omega arith) in′ n ∙ dilating-dark i k from in′ n

@@ -1,11 +1,12 @@
 -- The passes of an opening, for lines that go any way in a frame whose pixels stand in any way.
---   lane-in, lane-left, lane-right, lane-pixel    line u's pixel at i, or none
+--   lane-in, lane-left, lane-right, lane-pixel, lane-dark    line u's pixel at i, or none; 0 where all pixels are
 --   rows-pixels, columns-pixels         a pass over rows, where the major coordinate counts the rows, or the columns
 --   pixels-as                           pixels known by an equation
 --   eroded-start, eroded-step           the passes of an erosion
 --   dilated-start, dilated-step, dilated-end    the passes of a dilation, up to the opening
 --   opened-none                         lines shorter than the window
 --   erodes-end, dilates-end             the window length known by an equation
+--   erodes-dark                         0 where the window leaves the line
 -- Assumes nothing.
 use mathlib.Core.Path.{_≡_, refl, sym, ap, ap₂, _∙_, subst}
 use mathlib.Core.Bool.{cond}
@@ -22,10 +23,12 @@ use Rattle.line.specs.Windows.{opened}
 use Rattle.line.specs.Passes.{erodedTo, reopened}
 use Rattle.line.proofs.Windows.{opened-at}
 use Rattle.line.proofs.Passes.{opened-at-short}
-use Rattle.line.proofs.Rims.{eroded-to-one, eroded-to-more, eroded-to-out, eroded-to-dark, reopened-one, reopened-near, reopened-more, reopened-dark, reopened-whole}
+use Rattle.line.proofs.Rims.{eroded-to-one, eroded-to-more, eroded-to-past, eroded-to-out, eroded-to-dark}
+use Rattle.line.proofs.Rims.{reopened-one, reopened-near, reopened-more, reopened-dark, reopened-whole}
 use Rattle.frame.specs.declared.sweep.Sweep.{Sweep}
-use Rattle.rows.specs.Rows.{laneAt, lane, PixelsAre, RowsAre}
-use Rattle.rows.specs.Passes.{eroding, dilating, ErodesLines, DilatesLines}
+use Rattle.frame.specs.Sweep.{shift}
+use Rattle.rows.specs.Rows.{spot, laneAt, lane, PixelsAre, RowsAre}
+use Rattle.rows.specs.Passes.{eroding, dilating, ErodesLines, DilatesLines, Dark}
 
 -- ---- a line's pixels
 
@@ -59,6 +62,9 @@ lane-cases h A N g P u i pixel none =
     (λ right. subst P (sym (lane-right h A N g u i from right)) (none (λ f. lane-right h A N f u i from right)))
     (less-or-not u (h i + N)))
     (less-or-not u (h i))
+
+pub lane-dark : (h : ℕ → ℕ) (A : ℕ → ℕ → ℕ) (N : ℕ) (g : List ℕ) (u i : ℕ) → ((k : ℕ) → k < N → getD g (A i k) 0 ≡ 0) → laneAt h A N g u i ≡ 0
+lane-dark h A N g u i dark = lane-cases h A N g (λ (v : ℕ). v ≡ 0) u i (λ k n e. dark k n) (λ none. refl)
 
 -- ---- a pass over rows, as one over the pixels of lines
 
@@ -187,3 +193,11 @@ erodes-end {s} {w} {v} {b} {a} r e = subst (λ (m : ℕ). ErodesLines s m b a) e
 
 pub dilates-end : {s : Sweep} {L w v : ℕ} {b a : List ℕ} → DilatesLines s L w b a → w ≡ v → DilatesLines s L v b a
 dilates-end {s} {L} {w} {v} {b} {a} r e = subst (λ (m : ℕ). DilatesLines s L m b a) e r
+
+-- ---- no window of w pixels fits from `light` on
+
+pub erodes-dark : {s : Sweep} {w : ℕ} {b a : List ℕ} → ErodesLines s w b a → (light : ℕ) → s .majors < light + w → Dark s light a
+erodes-dark {s} {w} {b} {a} r light past i k from in′ n =
+    let line = lane (shift s) (spot s) (s .minors) (s .majors) b (k + shift s i) in
+    r .pixels .within i k in′ n
+    ∙ eroded-to-past line w i (omega (arith, line-length (shift s) (spot s) (s .minors) (s .majors) b (k + shift s i)))

@@ -2,6 +2,7 @@
 --   Parted st N M                  M rows of N bytes, each at its start, do not meet
 --   parted-rows                    rows that stand S apart
 --   rows-none, rows-more, rows-before, rows-join    no row; one more, behind or before; two stretches of rows
+--   rows-still                     rows that have their pixels already
 --   rows-end, rows-start, rows-as  ends and pixels known by an equation
 --   row-kept                       a row that is not among them
 --   row-room                       a row is in the buffer
@@ -34,6 +35,10 @@ parted-rows S N M wide i j p q apart =
 
 pub rows-none : (st : ℕ → ℕ) (N lo : ℕ) (F : ℕ → ℕ → ℕ) (g : List ℕ) → RowsAre st N lo lo F g g
 rows-none st N lo F g = record { same = refl; within = λ i k l h n. absurd (omega arith); other = λ x h. refl }
+
+pub rows-still : (st : ℕ → ℕ) (N lo hi : ℕ) (F : ℕ → ℕ → ℕ) (g : List ℕ) → ((i k : ℕ) → lo ≤ i → i < hi → k < N → getD g (st i + k) 0 ≡ F i k)
+    → RowsAre st N lo hi F g g
+rows-still st N lo hi F g e = record { same = refl; within = e; other = λ x h. refl }
 
 pub rows-end : {st : ℕ → ℕ} {N lo i hi : ℕ} {F : ℕ → ℕ → ℕ} {b a : List ℕ} → RowsAre st N lo i F b a → i ≡ hi → RowsAre st N lo hi F b a
 rows-end {st} {N} {lo} {i} {hi} {F} {b} {a} r e = subst (λ (m : ℕ). RowsAre st N lo m F b a) e r

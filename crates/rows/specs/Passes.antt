@@ -5,6 +5,7 @@
 --   DilatesLines s L w         from the erosion of any frame by L, each line is dilated by windows of w
 -- Lines that go down the rows:
 --   Down s g             the lines of s go down the rows of the frame that stands in g
+--   Dark s light g       every pixel of its rows from `light` on is 0
 -- Lines that go along the rows, and bend from one to the next:
 --   Slanted s g          the lines of s go along the rows of the frame that stands in g
 --   startOf up N S t     where row t starts, counted from the last of N rows where `up`
@@ -55,6 +56,9 @@ pub record Down (s : Sweep) (g : List ℕ) : Type 0 where
   pub next : s .minor ≡ 1
   pub apart : s .minors ≤ s .major
   pub room : (s .majors - 1) * s .major + s .minors ≤ length g
+
+abbrev pub Dark : Sweep → ℕ → List ℕ → Type 0
+Dark s light g = (i k : ℕ) → light ≤ i → i < s .majors → k < s .minors → getD g (spot s i k) 0 ≡ 0
 
 -- ---- lines that go along the rows, and bend
 

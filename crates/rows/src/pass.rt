@@ -8,7 +8,7 @@ ghost use lib.ListN.{length};
 ghost use Rattle.frame.specs.Lines.{r};
 ghost use Rattle.frame.specs.Sweep.{shift, Sane};
 ghost use Rattle.rows.specs.Rows.{spot, rowsOf, RowsAre};
-ghost use Rattle.rows.specs.Passes.{Down, eroding, dilating};
+ghost use Rattle.rows.specs.Passes.{Down, Dark, eroding, dilating};
 
 // How many columns the lines have moved aside at row i.
 fn moved(run: usize, rise: usize, i: usize) -> usize
@@ -28,16 +28,15 @@ fn aside(s: Sweep, i: usize) -> usize
     if falling { n } else { s.top - n }
 }
 
-// The rows whose lines go on e rows further down.
-fn erode_upper(buf: &mut [u8], s: Sweep, e: usize)
-    requires { ⌜ Down s (now buf) × (1 ≤ e) × (e ≤ s .majors) ⌝ }
-    ensures { λ _. ⌜ RowsAre (rowsOf (s .major)) (s .minors) 0 (s .majors - e) (eroding (shift s) (spot s) (s .minors) (s .majors) e (now (buf .entry))) (now (buf .entry)) (now (buf .exit)) ⌝ }
+// The first `count` rows.
+fn erode_upper(buf: &mut [u8], s: Sweep, count: usize, e: usize)
+    requires { ⌜ Down s (now buf) × (1 ≤ e) × (count + e ≤ s .majors) ⌝ }
+    ensures { λ _. ⌜ RowsAre (rowsOf (s .major)) (s .minors) 0 count (eroding (shift s) (spot s) (s .minors) (s .majors) e (now (buf .entry))) (now (buf .entry)) (now (buf .exit)) ⌝ }
 {
-    let rows = s.majors;
     let n = s.minors;
     let stride = s.major;
     let mut i = 0;
-    while i < rows - e {
+    while i < count {
         erode_row(buf, i * stride, n, e * stride, aside(s, i), aside(s, i + e));
         i += 1;
     }
@@ -55,21 +54,24 @@ pub(crate) fn clear_rows(buf: &mut [u8], stride: usize, n: usize, from: usize, t
     }
 }
 
-pub(crate) fn erode_rows(buf: &mut [u8], s: Sweep, e: usize)
-    requires { ⌜ Down s (now buf) × (1 ≤ e) × (e ≤ s .majors) ⌝ }
+// The rows from `light` on are dark. After an erosion so are the e rows before them, without a look at their lines.
+pub(crate) fn erode_rows(buf: &mut [u8], s: Sweep, light: usize, e: usize)
+    requires { ⌜ Down s (now buf) × Dark s light (now buf) × (1 ≤ e) × (e ≤ light) × (light ≤ s .majors) ⌝ }
     ensures { λ _. ⌜ RowsAre (rowsOf (s .major)) (s .minors) 0 (s .majors) (eroding (shift s) (spot s) (s .minors) (s .majors) e (now (buf .entry))) (now (buf .entry)) (now (buf .exit)) ⌝ }
 {
-    erode_upper(buf, s, e);
-    clear_rows(buf, s.major, s.minors, s.majors - e, s.majors);
+    let count = light - e;
+    erode_upper(buf, s, count, e);
+    clear_rows(buf, s.major, s.minors, count, light);
 }
 
-pub(crate) fn dilate_rows(buf: &mut [u8], s: Sweep, e: usize)
-    requires { ⌜ Down s (now buf) × (1 ≤ e) × (e ≤ s .majors) ⌝ }
+// The rows from `light` on are dark. After a dilation so are those from light + e on, which are left alone.
+pub(crate) fn dilate_rows(buf: &mut [u8], s: Sweep, light: usize, e: usize)
+    requires { ⌜ Down s (now buf) × Dark s light (now buf) × (1 ≤ e) × (light + e ≤ s .majors) ⌝ }
     ensures { λ _. ⌜ RowsAre (rowsOf (s .major)) (s .minors) e (s .majors) (dilating (shift s) (spot s) (s .minors) e (now (buf .entry))) (now (buf .entry)) (now (buf .exit)) ⌝ }
 {
     let n = s.minors;
     let stride = s.major;
-    let mut i = s.majors;
+    let mut i = light + e;
     while e < i {
         i -= 1;
         dilate_row(

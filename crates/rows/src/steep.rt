@@ -5,10 +5,11 @@ use crate::pass::erode_rows;
 use frame::Direction;
 use frame::Shape;
 use frame::Sweep;
-ghost use Prim.Native.Nat.{_≤_};
+ghost use Prim.Native.Nat.{_+_, _-_, _≤_};
 ghost use Rattle.rows.specs.Rows.{OpensLines, OpensSteep};
-ghost use Rattle.rows.specs.Passes.{Down, ErodesLines, DilatesLines};
+ghost use Rattle.rows.specs.Passes.{Down, Dark, ErodesLines, DilatesLines};
 
+// From row majors + 1 − w on no window of w rows fits, so these rows are dark.
 fn erode_down(buf: &mut [u8], s: Sweep, length: usize)
     requires { ⌜ Down s (now buf) × (1 ≤ length) × (length ≤ s .majors) ⌝ }
     ensures { λ _. ⌜ ErodesLines s length (now (buf .entry)) (now (buf .exit)) ⌝ }
@@ -16,20 +17,20 @@ fn erode_down(buf: &mut [u8], s: Sweep, length: usize)
     let mut w = 1;
     while w < length {
         let e = line::growth(w, length);
-        erode_rows(buf, s, e);
+        erode_rows(buf, s, s.majors + 1 - w, e);
         w += e;
     }
 }
 
-// From the erosion of any frame to its opening.
+// From the erosion of any frame to its opening. The erosion is dark from row majors − length + 1 on; windows of w reach w − 1 rows further.
 fn dilate_down(buf: &mut [u8], s: Sweep, length: usize)
-    requires { ⌜ Down s (now buf) × (1 ≤ length) × (length ≤ s .majors) ⌝ }
+    requires { ⌜ Down s (now buf) × (1 ≤ length) × (length ≤ s .majors) × Dark s (s .majors - length + 1) (now buf) ⌝ }
     ensures { λ _. ⌜ DilatesLines s length length (now (buf .entry)) (now (buf .exit)) ⌝ }
 {
     let mut w = 1;
     while w < length {
         let e = line::growth(w, length);
-        dilate_rows(buf, s, e);
+        dilate_rows(buf, s, s.majors - length + w, e);
         w += e;
     }
 }

@@ -1,4 +1,4 @@
--- The rows from i on are done, and those before them are as they were.
+-- The rows from i on are done, at first those that stay dark, and those before them are as they were.
 use Prim.Native.Nat.{ℕ, _+_, _-_, _*_, _≤_}
 use native.Mathlib.Omega.{arith}
 use lib.ListN.{length}
@@ -7,20 +7,31 @@ use native.Mathlib.Nat.{add-mul, mul-le-mul-right, one-mul}
 use Rattle.frame.specs.Sweep.{shift}
 use Rattle.rows.specs.Rows.{spot, rowsOf, RowsAre}
 use Rattle.rows.specs.Passes.{dilating}
-use Rattle.rows.proofs.Rowwise.{parted-rows, rows-none, rows-start, row-room}
-use Rattle.rows.proofs.Downs.{side-by-side, dilate-more}
+use Rattle.rows.proofs.Rowwise.{parted-rows, rows-start, row-room}
+use Rattle.rows.proofs.Downs.{side-by-side, dilate-more, dilate-rest}
 use borrow.Author.Needs.{needs}
 use Rattle.rows.proofs.pass.dilate_rows.Statement.{statement}
 use Rattle.rows.proofs.pass.dilate_rows.Tie as tie
 
 abbrev Inv-loop : tie.InvT-loop
-Inv-loop buf₀ s e n stride i₀ buf i = (e ≤ i) × (i ≤ s .majors) × RowsAre (rowsOf stride) n i (s .majors) (dilating (shift s) (spot s) n e buf₀) buf₀ buf
+Inv-loop buf₀ s light e n stride i₀ buf i = (e ≤ i) × (i ≤ s .majors) × RowsAre (rowsOf stride) n i (s .majors) (dilating (shift s) (spot s) n e buf₀) buf₀ buf
 
 abbrev μ-loop : tie.MeasureT-loop
-μ-loop buf₀ s e n stride i₀ buf i = i
+μ-loop buf₀ s light e n stride i₀ buf i = i
+
+add-i : tie.Need-add-i Inv-loop μ-loop
+add-i c = search needs
 
 loop-holds : tie.Need-loop-holds Inv-loop μ-loop
-loop-holds c = (search needs, search needs, rows-none _ _ _ _ _)
+loop-holds c =
+    let args = c .before .args in
+    let s = args .s in
+    let down = c .before .pre .0 in (
+      omega arith,
+      omega arith,
+      dilate-rest (shift s) (spot s) (s .major) (s .minors) (s .majors) (args .e) (side-by-side s (down .next))
+          (parted-rows (s .major) (s .minors) (s .majors) (down .apart)) (args .buf .now) (args .light) (c .before .pre .1),
+    )
 
 sub-i : tie.Need-sub-i Inv-loop μ-loop
 sub-i c = search needs
@@ -108,6 +119,7 @@ dilate-rows-spec =
     (tie.spec
     Inv-loop
     μ-loop
+    add-i
     loop-holds
     sub-i
     sub-dilate-row

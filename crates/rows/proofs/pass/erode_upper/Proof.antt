@@ -13,16 +13,13 @@ use Rattle.rows.proofs.pass.erode_upper.Statement.{statement}
 use Rattle.rows.proofs.pass.erode_upper.Tie as tie
 
 abbrev Inv-loop : tie.InvT-loop
-Inv-loop buf₀ s e rows n stride i₀ buf i = (i ≤ rows - e) × RowsAre (rowsOf stride) n 0 i (eroding (shift s) (spot s) n rows e buf₀) buf₀ buf
+Inv-loop buf₀ s count e n stride i₀ buf i = (i ≤ count) × RowsAre (rowsOf stride) n 0 i (eroding (shift s) (spot s) n (s .majors) e buf₀) buf₀ buf
 
 abbrev μ-loop : tie.MeasureT-loop
-μ-loop buf₀ s e rows n stride i₀ buf i = rows - e - i
+μ-loop buf₀ s count e n stride i₀ buf i = count - i
 
 loop-holds : tie.Need-loop-holds Inv-loop μ-loop
 loop-holds c = (search needs, rows-none _ _ _ _ _)
-
-sub-loop : tie.Need-sub-loop Inv-loop μ-loop
-sub-loop c = search needs
 
 mul-erode-row : tie.Need-mul-erode-row Inv-loop μ-loop
 mul-erode-row c =
@@ -101,7 +98,6 @@ erode-upper-spec =
     Inv-loop
     μ-loop
     loop-holds
-    sub-loop
     mul-erode-row
     mul-erode-row-2
     aside-requires

@@ -1,40 +1,47 @@
--- The frame holds its lines dilated by windows of w pixels.
+-- The frame holds its lines dilated by windows of w pixels, and the rows that these do not reach are dark.
 use mathlib.Core.Path.{_≡_, _∙_, refl}
-use Prim.Native.Nat.{_-_, _≤_, zero-le}
+use Prim.Native.Nat.{_+_, _-_, _≤_, zero-le}
 use native.Mathlib.Nat.{le-refl}
 use native.Mathlib.Omega.{arith}
 use lib.ListN
 use Rattle.frame.specs.Sweep.{shift}
-use Rattle.rows.specs.Passes.{DilatesLines}
+use Rattle.rows.specs.Passes.{DilatesLines, Dark}
 use Rattle.rows.proofs.Rowwise.{parted-rows, rows-join}
 use Rattle.rows.proofs.Lines.{rows-pixels, dilated-start, dilated-step, dilates-end}
 use Rattle.rows.specs.Rows.{spot}
-use Rattle.rows.proofs.Downs.{side-by-side, rows-before-all}
+use Rattle.rows.proofs.Downs.{side-by-side, rows-before-all, dilate-dark}
 use borrow.Author.Needs.{needs}
 use Rattle.rows.proofs.steep.dilate_down.Statement.{statement}
 use Rattle.rows.proofs.steep.dilate_down.Tie as tie
 
 abbrev Inv-loop : tie.InvT-loop
-Inv-loop buf₀ s length w₀ buf w = (lib.ListN.length buf ≡ lib.ListN.length buf₀) × (1 ≤ w) × (w ≤ length) × DilatesLines s length w buf₀ buf
+Inv-loop buf₀ s length w₀ buf w = (lib.ListN.length buf ≡ lib.ListN.length buf₀) × (1 ≤ w) × (w ≤ length) × DilatesLines s length w buf₀ buf × Dark s (s .majors - length + w) buf
 
 abbrev μ-loop : tie.MeasureT-loop
 μ-loop buf₀ s length w₀ buf w = length - w
 
 loop-holds : tie.Need-loop-holds Inv-loop μ-loop
-loop-holds c = (refl, search needs, search needs, record { pixels = λ f e. dilated-start _ _ _ _ f _ (e .pixels) })
+loop-holds c = (refl, search needs, search needs, record { pixels = λ f e. dilated-start _ _ _ _ f _ (e .pixels) }, c .before .pre .3)
 
 growth-requires : tie.Need-growth-requires Inv-loop μ-loop
 growth-requires c κs = search needs
 
+sub-dilate-rows : tie.Need-sub-dilate-rows Inv-loop μ-loop
+sub-dilate-rows c = search needs
+
+add-dilate-rows : tie.Need-add-dilate-rows Inv-loop μ-loop
+add-dilate-rows c = search needs
+
 dilate-rows-requires : tie.Need-dilate-rows-requires Inv-loop μ-loop
 dilate-rows-requires c κs =
-    let pre = c .before .before .before .before .before .pre in
+    let pre = c .before .before .before .before .before .before .pre in
     let down = pre .0 in
-    let at = c .before .before .before .loop in (
+    let at = c .before .before .before .before .loop in
+    let grown = c .before .before .growth .ensures in (
       record { sane = down .sane; next = down .next; apart = down .apart; room = omega (arith, down .room, at .inv .0) },
-      omega
-          (arith, at .inv, c .before .growth .ensures, c .before .before .loop-test .taken),
-      omega (arith, pre, at .inv, c .before .growth .ensures),
+      at .inv .4,
+      omega (arith, at .inv .1, at .inv .2, grown, c .before .before .before .loop-test .taken),
+      omega (arith, pre .1, pre .2, at .inv .1, at .inv .2, grown),
     )
 
 add-w : tie.Need-add-w Inv-loop μ-loop
@@ -45,12 +52,12 @@ loop-less c = search needs
 
 loop-again : tie.Need-loop-again Inv-loop μ-loop
 loop-again c =
-    let args = c .before .before .before .before .before .before .before .before .args in
+    let args = c .before .before .before .before .before .before .before .before .before .args in
     let s = args .s in
     let length = args .length in
-    let pre = c .before .before .before .before .before .before .before .before .pre in
-    let at = c .before .before .before .before .before .before .loop in
-    let grown = c .before .before .before .before .growth in
+    let pre = c .before .before .before .before .before .before .before .before .before .pre in
+    let at = c .before .before .before .before .before .before .before .loop in
+    let grown = c .before .before .before .before .before .growth in
     let pass = c .before .before .dilate-rows in
     let flat = side-by-side s (pre .0 .next) in
     let parted = parted-rows (s .major) (s .minors) (s .majors) (pre .0 .apart) in
@@ -63,6 +70,8 @@ loop-again c =
         pixels = λ f e. dilated-step (shift s) (spot s) (s .minors) (s .majors) f length (at .w) (grown .result) (at .inv .3 .pixels f e)
             (rows-pixels whole (spot s) flat) (omega (arith, at .inv)) (omega (arith, grown .ensures));
       },
+      λ i k from. dilate-dark (shift s) (spot s) (s .major) (s .minors) (s .majors) (grown .result) flat parted _ (s .majors - length + at .w) (at .inv .4)
+          (pass .ensures) i k (omega arith),
     )
 
 same-length : tie.Need-same-length Inv-loop μ-loop
@@ -79,6 +88,8 @@ dilate-down-spec =
     μ-loop
     loop-holds
     growth-requires
+    sub-dilate-rows
+    add-dilate-rows
     dilate-rows-requires
     add-w
     loop-less

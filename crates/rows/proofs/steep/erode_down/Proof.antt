@@ -4,8 +4,8 @@ use Prim.Native.Nat.{_-_, _≤_}
 use native.Mathlib.Omega.{arith}
 use lib.ListN
 use Rattle.frame.specs.Sweep.{shift}
-use Rattle.rows.specs.Passes.{ErodesLines}
-use Rattle.rows.proofs.Lines.{rows-pixels, eroded-start, eroded-step, erodes-end}
+use Rattle.rows.specs.Passes.{eroding, ErodesLines}
+use Rattle.rows.proofs.Lines.{rows-pixels, eroded-start, eroded-step, erodes-end, erodes-dark}
 use Rattle.rows.specs.Rows.{spot}
 use Rattle.rows.proofs.Downs.{side-by-side}
 use borrow.Author.Needs.{needs}
@@ -24,15 +24,23 @@ loop-holds c = (refl, search needs, search needs, record { pixels = eroded-start
 growth-requires : tie.Need-growth-requires Inv-loop μ-loop
 growth-requires c κs = search needs
 
+add-erode-rows : tie.Need-add-erode-rows Inv-loop μ-loop
+add-erode-rows c = search needs
+
+sub-erode-rows : tie.Need-sub-erode-rows Inv-loop μ-loop
+sub-erode-rows c = search needs
+
 erode-rows-requires : tie.Need-erode-rows-requires Inv-loop μ-loop
 erode-rows-requires c κs =
-    let pre = c .before .before .before .before .before .pre in
+    let pre = c .before .before .before .before .before .before .pre in
     let down = pre .0 in
-    let at = c .before .before .before .loop in (
+    let at = c .before .before .before .before .loop in
+    let grown = c .before .before .growth .ensures in (
       record { sane = down .sane; next = down .next; apart = down .apart; room = omega (arith, down .room, at .inv .0) },
-      omega
-          (arith, at .inv, c .before .growth .ensures, c .before .before .loop-test .taken),
-      omega (arith, pre, at .inv, c .before .growth .ensures),
+      erodes-dark (at .inv .3) _ (omega (arith, pre, at .inv)),
+      omega (arith, at .inv, grown, c .before .before .before .loop-test .taken),
+      omega (arith, pre, at .inv, grown),
+      omega (arith, at .inv),
     )
 
 add-w : tie.Need-add-w Inv-loop μ-loop
@@ -43,19 +51,20 @@ loop-less c = search needs
 
 loop-again : tie.Need-loop-again Inv-loop μ-loop
 loop-again c =
-    let args = c .before .before .before .before .before .before .before .before .args in
+    let args = c .before .before .before .before .before .before .before .before .before .args in
     let s = args .s in
     let length = args .length in
-    let pre = c .before .before .before .before .before .before .before .before .pre in
-    let at = c .before .before .before .before .before .before .loop in
-    let grown = c .before .before .before .before .growth in
+    let pre = c .before .before .before .before .before .before .before .before .before .pre in
+    let at = c .before .before .before .before .before .before .before .loop in
+    let grown = c .before .before .before .before .before .growth in
     let pass = c .before .before .erode-rows in (
       pass .kept .0 ∙ at .inv .0,
       omega (arith, at .inv),
       omega (arith, at .inv, grown .ensures),
       record {
         pixels = eroded-step (shift s) (spot s) (s .minors) (s .majors) _ (at .w) (grown .result) (at .inv .3 .pixels)
-            (rows-pixels (pass .ensures) (spot s) (side-by-side s (pre .0 .next))) (omega (arith, at .inv)) (omega (arith, grown .ensures));
+            (rows-pixels {F = eroding (shift s) (spot s) (s .minors) (s .majors) (grown .result) (at .buf)} (pass .ensures) (spot s)
+            (side-by-side s (pre .0 .next))) (omega (arith, at .inv)) (omega (arith, grown .ensures));
       },
     )
 
@@ -73,6 +82,8 @@ erode-down-spec =
     μ-loop
     loop-holds
     growth-requires
+    add-erode-rows
+    sub-erode-rows
     erode-rows-requires
     add-w
     loop-less

@@ -2,7 +2,7 @@
 use native.Mathlib.Omega.{arith}
 use Rattle.frame.specs.Sweep.{shift}
 use Rattle.rows.specs.Rows.{spot}
-use Rattle.rows.proofs.Lines.{rows-pixels, opened-none, dilated-end}
+use Rattle.rows.proofs.Lines.{rows-pixels, opened-none, dilated-end, erodes-dark}
 use Rattle.rows.proofs.Downs.{side-by-side}
 use borrow.Author.Needs.{needs}
 use Rattle.rows.proofs.steep.open_down.Statement.{statement}
@@ -29,8 +29,12 @@ erode-down-requires c κs = search needs
 dilate-down-requires : tie.Need-dilate-down-requires
 dilate-down-requires c κs =
     let down = c .before .before .before .before .before .before .before .before .pre .0 in
-    let eroded = c .before .before .before .erode-down in
-    (record { sane = down .sane; next = down .next; apart = down .apart; room = omega (arith, down .room, eroded .kept .0) }, omega arith, omega arith)
+    let eroded = c .before .before .before .erode-down in (
+      record { sane = down .sane; next = down .next; apart = down .apart; room = omega (arith, down .room, eroded .kept .0) },
+      omega arith,
+      omega arith,
+      erodes-dark (eroded .ensures) _ (omega arith),
+    )
 
 same-length-2 : tie.Need-same-length-2
 same-length-2 c = search needs
