@@ -4,6 +4,7 @@
 --   filled-join, filled-join-before one stretch behind another, or before it
 --   filled-end, filled-start, filled-as    the same stretch, its ends and values known by equations
 --   filled-whole, filled-copy, filled-front    what a filled list is
+--   filled-once                     one stretch of stores leaves one list
 --   front-length, front-more        values at the front: the length stays, and one value more is one store
 -- Assumes nothing.
 use mathlib.Core.Path.{_≡_, refl, sym, _∙_, subst}
@@ -112,6 +113,15 @@ filled-front {d} {a} {hi} vs f e fit =
     getD-append-add vs (drop (length vs) d) (k - length vs) 0 ∙ getD-drop (length vs) d (k - length vs) 0 in
     f .above k q ∙ sym (rw s at r))
     (less-or-not k hi))
+
+pub filled-once : {b b₁ b₂ : List ℕ} {lo hi : ℕ} {F : ℕ → ℕ} → Filled b b₁ lo hi F → Filled b b₂ lo hi F → b₁ ≡ b₂
+filled-once {b} {b₁} {b₂} {lo} {hi} p q =
+    ext-getD 0 b₁ b₂ (p .same ∙ sym (q .same))
+    (λ k h.
+    ⊎-elim
+    (λ low. p .below k low ∙ sym (q .below k low))
+    (λ from. ⊎-elim (λ in′. p .within k from in′ ∙ sym (q .within k from in′)) (λ past. p .above k past ∙ sym (q .above k past)) (less-or-not k hi))
+    (less-or-not k lo))
 
 -- ---- values at the front
 

@@ -1,24 +1,26 @@
 -- One input allows one outcome, of the calls that the crates of the library make of each other: the engines and their passes. They have no rules; what
 -- does not fit changes nothing.
---   open-lanes-once, darken-once, brighten-once, blacken-once    the passes over a buffer
+--   open-lanes-once                                              lines opened where they stand
+--   darken-once, brighten-once, darken-bent-once, brighten-bent-once, blacken-once, blacken-bent-once, copy-once    the passes over bytes
 --   open-steep-once, open-shallow-once                           a frame opened where it stands
 --   put-frame-once, claim-frame-once                             a frame opened into another, by strips
 -- Marks and strips in scratch are the exception, as scratch is elsewhere.
 -- Assumes nothing.
 use mathlib.Core.Path.{_≡_, refl, sym, ap, subst, _∙_}
 use mathlib.Core.Bool.{Bool, true, false, not, _&&_}
-use mathlib.Core.Logic.{⊎-elim}
+use mathlib.Core.Logic.{_⊎_, inl, inr, ⊎-elim}
 use mathlib.Core.List.{List}
 use Prim.Native.Nat.{ℕ, _+_, _≤_, _<_}
 use native.Mathlib.Omega.{arith}
 use lib.Dec.{leb}
 use lib.ListN.{length, getD, drop}
-use lib.Seq.{ext-getD}
 use borrow.Author.Tests.{not-true}
 use Rattle.lists.specs.Stores.{Filled}
 use Rattle.lists.proofs.Cases.{less-or-not, both-left, both-right}
+use Rattle.lists.proofs.Stores.{filled-once}
 use Rattle.line.specs.Lanes.{OpensFront}
-use Rattle.line.specs.Parts.{Darkens, Brightens, Clears}
+use Rattle.passes.specs.Passes.{Darkens, Brightens, DarkensBent, BrightensBent, Clears, ClearsBent, Copies}
+use Rattle.passes.proofs.Ways.{both-or-not, all-or-not, upward-or-not, downward-or-not}
 use Rattle.line.proofs.Laws as line
 use Rattle.frame.specs.declared.direction.Direction.{Direction}
 use Rattle.frame.specs.declared.shape.Shape.{Shape}
@@ -40,29 +42,50 @@ use Rattle.strips.proofs.Paintings.{painted-once}
 pub open-lanes-once : {c n L : ℕ} {b b₁ b₂ : List ℕ} → OpensFront c n L b b₁ → OpensFront c n L b b₂ → b₁ ≡ b₂
 open-lanes-once = line.front-once
 
-filled-once : {b b₁ b₂ : List ℕ} {lo hi : ℕ} {F : ℕ → ℕ} → Filled b b₁ lo hi F → Filled b b₂ lo hi F → b₁ ≡ b₂
-filled-once {b} {b₁} {b₂} {lo} {hi} p q =
-    ext-getD 0 b₁ b₂ (p .same ∙ sym (q .same))
-    (λ k h.
-    ⊎-elim (λ low. p .below k low ∙ sym (q .below k low))
-    (λ from. ⊎-elim (λ in′. p .within k from in′ ∙ sym (q .within k from in′)) (λ past. p .above k past ∙ sym (q .above k past)) (less-or-not k hi))
-    (less-or-not k lo))
+-- done or left alone, as P has it or not
+once : {P : Type 0} {b b₁ b₂ : List ℕ} {lo hi : ℕ} {F : ℕ → ℕ} → P ⊎ (P → ⊥) → (P → Filled b b₁ lo hi F) → ((P → ⊥) → b₁ ≡ b)
+    → (P → Filled b b₂ lo hi F) → ((P → ⊥) → b₂ ≡ b) → b₁ ≡ b₂
+once (inl fits) done₁ none₁ done₂ none₂ = filled-once (done₁ fits) (done₂ fits)
+once (inr unfit) done₁ none₁ done₂ none₂ = none₁ unfit ∙ sym (none₂ unfit)
 
-module _ {at count : ℕ} {b b₁ b₂ : List ℕ} where
-  pub darken-once : {d : ℕ} → Darkens at count d b b₁ → Darkens at count d b b₂ → b₁ ≡ b₂
-  darken-once {d} p q =
-      ⊎-elim (λ short. let out : at + d + count ≤ length b → ⊥ = λ fit. omega arith in p .none out ∙ sym (q .none out))
-      (λ fit. filled-once (p .done fit) (q .done fit)) (less-or-not (length b) (at + d + count))
+at-most : (a b : ℕ) → (a ≤ b) ⊎ (a ≤ b → ⊥)
+at-most a b = ⊎-elim (λ out. inr (λ h. omega arith)) inl (less-or-not b a)
 
-  pub brighten-once : {d : ℕ} → Brightens at count d b b₁ → Brightens at count d b b₂ → b₁ ≡ b₂
-  brighten-once {d} p q =
-      ⊎-elim (λ short. let out : at + d + count ≤ length b → ⊥ = λ fit. omega arith in p .none out ∙ sym (q .none out))
-      (λ fit. filled-once (p .done fit) (q .done fit)) (less-or-not (length b) (at + d + count))
+module _ {b b₁ b₂ : List ℕ} (at from n : ℕ) where
+  pub darken-once : Darkens at from n b b₁ → Darkens at from n b b₂ → b₁ ≡ b₂
+  darken-once p q = once (upward-or-not at from n (length b)) (p .done) (p .none) (q .done) (q .none)
 
-  pub blacken-once : Clears at count b b₁ → Clears at count b b₂ → b₁ ≡ b₂
-  blacken-once p q =
-      ⊎-elim (λ short. let out : at + count ≤ length b → ⊥ = λ fit. omega arith in p .none out ∙ sym (q .none out))
-      (λ fit. filled-once (p .done fit) (q .done fit)) (less-or-not (length b) (at + count))
+  pub brighten-once : Brightens at from n b b₁ → Brightens at from n b b₂ → b₁ ≡ b₂
+  brighten-once p q = once (downward-or-not at from n (length b)) (p .done) (p .none) (q .done) (q .none)
+
+module _ {b b₁ b₂ : List ℕ} (m : List ℕ) (at near far n : ℕ) where
+  pub darken-bent-once : DarkensBent m at near far n b b₁ → DarkensBent m at near far n b b₂ → b₁ ≡ b₂
+  darken-bent-once p q =
+      once (all-or-not (upward-or-not at near n (length b)) (upward-or-not at far n (length b)) (at-most n (length m)))
+      (λ (one, other, marks). p .done one other marks) (λ h. p .none (λ one other marks. h (one, other, marks)))
+      (λ (one, other, marks). q .done one other marks) (λ h. q .none (λ one other marks. h (one, other, marks)))
+
+  pub brighten-bent-once : BrightensBent m at near far n b b₁ → BrightensBent m at near far n b b₂ → b₁ ≡ b₂
+  brighten-bent-once p q =
+      once (all-or-not (downward-or-not at near n (length b)) (downward-or-not at far n (length b)) (at-most n (length m)))
+      (λ (one, other, marks). p .done one other marks) (λ h. p .none (λ one other marks. h (one, other, marks)))
+      (λ (one, other, marks). q .done one other marks) (λ h. q .none (λ one other marks. h (one, other, marks)))
+
+module _ {b b₁ b₂ : List ℕ} (at n : ℕ) where
+  pub blacken-once : Clears at n b b₁ → Clears at n b b₂ → b₁ ≡ b₂
+  blacken-once p q = once (at-most (at + n) (length b)) (p .done) (p .none) (q .done) (q .none)
+
+  pub blacken-bent-once : (m : List ℕ) → ClearsBent m at n b b₁ → ClearsBent m at n b b₂ → b₁ ≡ b₂
+  blacken-bent-once m p q =
+      once (both-or-not (at-most (at + n) (length b)) (at-most n (length m)))
+      (λ (here, marks). p .done here marks) (λ h. p .none (λ here marks. h (here, marks)))
+      (λ (here, marks). q .done here marks) (λ h. q .none (λ here marks. h (here, marks)))
+
+  pub copy-once : (f : List ℕ) → Copies f n b b₁ → Copies f n b b₂ → b₁ ≡ b₂
+  copy-once f p q =
+      once (both-or-not (at-most n (length f)) (at-most n (length b)))
+      (λ (there, here). p .done there here) (λ h. p .none (λ there here. h (there, here)))
+      (λ (there, here). q .done there here) (λ h. q .none (λ there here. h (there, here)))
 
 -- ---- a frame where it stands
 
