@@ -1,5 +1,4 @@
-// A pass whose partners stand in one of two rows, and a row of marks says which. It goes as a straight one does: the block at the far end is made first
-// and stored last.
+// A pass whose partners stand in one of two rows, and a row of marks says which. It goes as a straight one does.
 use crate::block::brighter;
 use crate::block::darker;
 use crate::block::put_block;
@@ -8,7 +7,7 @@ use crate::reach::is_upward;
 use crate::reach::is_within;
 ghost use mathlib.Core.Path.{_≡_};
 ghost use mathlib.Core.Bool.{cond};
-ghost use Prim.Native.Nat.{ℕ, _+_, _-_, _*_, _/_, _%_, _≤_, _<_, min, max};
+ghost use Prim.Native.Nat.{ℕ, _+_, _-_, _*_, _/_, _≤_, _<_, min, max};
 ghost use lib.Dec.{eqb};
 ghost use lib.ListN.{length, getD};
 ghost use Rattle.lists.specs.Stores.{Filled};
@@ -41,13 +40,13 @@ fn darker_bent_block(
     near: usize,
     far: usize,
     i: usize,
-) -> [u8; 32]
-    requires { ⌜ (at + i + 32 ≤ length (now buf)) × (near + i + 32 ≤ length (now buf)) × (far + i + 32 ≤ length (now buf)) × (i + 32 ≤ length (now bends)) ⌝ }
-    ensures { λ t. ⌜ ((k : ℕ) → k < 32 → getD t k 0 ≡ min (getD (now (buf .entry)) (at + (i + k)) 0) (bent (now (bends .entry)) near far (now (buf .entry)) (i + k))) ⌝ }
+) -> [u8; 64]
+    requires { ⌜ (at + i + 64 ≤ length (now buf)) × (near + i + 64 ≤ length (now buf)) × (far + i + 64 ≤ length (now buf)) × (i + 64 ≤ length (now bends)) ⌝ }
+    ensures { λ t. ⌜ ((k : ℕ) → k < 64 → getD t k 0 ≡ min (getD (now (buf .entry)) (at + (i + k)) 0) (bent (now (bends .entry)) near far (now (buf .entry)) (i + k))) ⌝ }
 {
-    let mut t = [0u8; 32];
+    let mut t = [0u8; 64];
     let mut j = 0;
-    while j < 32 {
+    while j < 64 {
         let k = i + j;
         t[j] = darker(buf[at + k], either(bends[k], buf[near + k], buf[far + k]));
         j += 1;
@@ -67,15 +66,22 @@ fn darken_bent_few(buf: &mut [u8], bends: &[u8], at: usize, near: usize, far: us
     }
 }
 
-// The same by blocks, as many as n has.
-fn darken_bent_blocks(buf: &mut [u8], bends: &[u8], at: usize, near: usize, far: usize, n: usize)
-    requires { ⌜ Upward at near n (length (now buf)) × Upward at far n (length (now buf)) × (n ≤ length (now bends)) ⌝ }
-    ensures { λ _. ⌜ Filled (now (buf .entry)) (now (buf .exit)) at (at + 32 * (n / 32)) (met min (bent (now (bends .entry)) near far) at (now (buf .entry))) ⌝ }
+// The same of the first blocks.
+fn darken_bent_blocks(
+    buf: &mut [u8],
+    bends: &[u8],
+    at: usize,
+    near: usize,
+    far: usize,
+    n: usize,
+    blocks: usize,
+)
+    requires { ⌜ Upward at near n (length (now buf)) × Upward at far n (length (now buf)) × (n ≤ length (now bends)) × (64 * blocks ≤ n) ⌝ }
+    ensures { λ _. ⌜ Filled (now (buf .entry)) (now (buf .exit)) at (at + 64 * blocks) (met min (bent (now (bends .entry)) near far) at (now (buf .entry))) ⌝ }
 {
-    let blocks = n / 32;
     let mut k = 0;
     while k < blocks {
-        let i = 32 * k;
+        let i = 64 * k;
         let t = darker_bent_block(buf, bends, at, near, far, i);
         put_block(buf, at + i, t);
         k += 1;
@@ -86,13 +92,17 @@ fn darken_bent_row(buf: &mut [u8], bends: &[u8], at: usize, near: usize, far: us
     requires { ⌜ Upward at near n (length (now buf)) × Upward at far n (length (now buf)) × (n ≤ length (now bends)) ⌝ }
     ensures { λ _. ⌜ Filled (now (buf .entry)) (now (buf .exit)) at (at + n) (met min (bent (now (bends .entry)) near far) at (now (buf .entry))) ⌝ }
 {
-    if n < 32 {
+    if n < 65 {
         darken_bent_few(buf, bends, at, near, far, n);
         return;
     }
-    let last = darker_bent_block(buf, bends, at, near, far, n - 32);
-    darken_bent_blocks(buf, bends, at, near, far, n);
-    put_block(buf, at + (n - 32), last);
+    let blocks = (n - 65) / 64;
+    let i = 64 * blocks;
+    darken_bent_blocks(buf, bends, at, near, far, n, blocks);
+    let next = darker_bent_block(buf, bends, at, near, far, i);
+    let last = darker_bent_block(buf, bends, at, near, far, n - 64);
+    put_block(buf, at + i, next);
+    put_block(buf, at + (n - 64), last);
 }
 
 // Each of the n bytes from `at` on becomes the darker of itself and its partner among those from `near` on, or from `far` on where it is
@@ -120,13 +130,13 @@ fn brighter_bent_block(
     near: usize,
     far: usize,
     i: usize,
-) -> [u8; 32]
-    requires { ⌜ (at + i + 32 ≤ length (now buf)) × (near + i + 32 ≤ length (now buf)) × (far + i + 32 ≤ length (now buf)) × (i + 32 ≤ length (now bends)) ⌝ }
-    ensures { λ t. ⌜ ((k : ℕ) → k < 32 → getD t k 0 ≡ max (getD (now (buf .entry)) (at + (i + k)) 0) (bent (now (bends .entry)) near far (now (buf .entry)) (i + k))) ⌝ }
+) -> [u8; 64]
+    requires { ⌜ (at + i + 64 ≤ length (now buf)) × (near + i + 64 ≤ length (now buf)) × (far + i + 64 ≤ length (now buf)) × (i + 64 ≤ length (now bends)) ⌝ }
+    ensures { λ t. ⌜ ((k : ℕ) → k < 64 → getD t k 0 ≡ max (getD (now (buf .entry)) (at + (i + k)) 0) (bent (now (bends .entry)) near far (now (buf .entry)) (i + k))) ⌝ }
 {
-    let mut t = [0u8; 32];
+    let mut t = [0u8; 64];
     let mut j = 0;
-    while j < 32 {
+    while j < 64 {
         let k = i + j;
         t[j] = brighter(buf[at + k], either(bends[k], buf[near + k], buf[far + k]));
         j += 1;
@@ -146,16 +156,24 @@ fn brighten_bent_few(buf: &mut [u8], bends: &[u8], at: usize, near: usize, far: 
     }
 }
 
-// The same by blocks, up to the last byte, as many as n has.
-fn brighten_bent_blocks(buf: &mut [u8], bends: &[u8], at: usize, near: usize, far: usize, n: usize)
-    requires { ⌜ Downward at near n (length (now buf)) × Downward at far n (length (now buf)) × (n ≤ length (now bends)) ⌝ }
-    ensures { λ _. ⌜ Filled (now (buf .entry)) (now (buf .exit)) (at + n % 32) (at + n) (met max (bent (now (bends .entry)) near far) at (now (buf .entry))) ⌝ }
+// The same of the last blocks.
+fn brighten_bent_blocks(
+    buf: &mut [u8],
+    bends: &[u8],
+    at: usize,
+    near: usize,
+    far: usize,
+    n: usize,
+    blocks: usize,
+)
+    requires { ⌜ Downward at near n (length (now buf)) × Downward at far n (length (now buf)) × (n ≤ length (now bends)) × (64 * blocks ≤ n) ⌝ }
+    ensures { λ _. ⌜ Filled (now (buf .entry)) (now (buf .exit)) (at + (n - 64 * blocks)) (at + n) (met max (bent (now (bends .entry)) near far) at (now (buf .entry))) ⌝ }
 {
-    let rest = n % 32;
-    let mut k = n / 32;
+    let rest = n - 64 * blocks;
+    let mut k = blocks;
     while 0 < k {
         k -= 1;
-        let i = rest + 32 * k;
+        let i = rest + 64 * k;
         let t = brighter_bent_block(buf, bends, at, near, far, i);
         put_block(buf, at + i, t);
     }
@@ -165,12 +183,16 @@ fn brighten_bent_row(buf: &mut [u8], bends: &[u8], at: usize, near: usize, far: 
     requires { ⌜ Downward at near n (length (now buf)) × Downward at far n (length (now buf)) × (n ≤ length (now bends)) ⌝ }
     ensures { λ _. ⌜ Filled (now (buf .entry)) (now (buf .exit)) at (at + n) (met max (bent (now (bends .entry)) near far) at (now (buf .entry))) ⌝ }
 {
-    if n < 32 {
+    if n < 65 {
         brighten_bent_few(buf, bends, at, near, far, n);
         return;
     }
+    let blocks = (n - 65) / 64;
+    let i = n - 64 * blocks - 64;
+    brighten_bent_blocks(buf, bends, at, near, far, n, blocks);
+    let next = brighter_bent_block(buf, bends, at, near, far, i);
     let first = brighter_bent_block(buf, bends, at, near, far, 0);
-    brighten_bent_blocks(buf, bends, at, near, far, n);
+    put_block(buf, at + i, next);
     put_block(buf, at, first);
 }
 

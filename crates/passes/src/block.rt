@@ -1,4 +1,4 @@
-// Blocks of 32 bytes by value: a pass has read all of a block before it writes any of it, so it works in place and compiles to vector instructions.
+// Blocks of 64 bytes by value: a pass has read all of a block before it writes any of it, so it works in place and compiles to vector instructions.
 ghost use mathlib.Core.Path.{_≡_};
 ghost use Prim.Native.Nat.{ℕ, _+_, _-_, _≤_, min, max};
 ghost use lib.ListN.{length, getD};
@@ -16,12 +16,12 @@ pub(crate) fn brighter(a: u8, b: u8) -> u8
     if a < b { b } else { a }
 }
 
-pub(crate) fn put_block(buf: &mut [u8], at: usize, t: [u8; 32])
-    requires { ⌜ at + 32 ≤ length (now buf) ⌝ }
-    ensures { λ _. ⌜ Filled (now (buf .entry)) (now (buf .exit)) at (at + 32) (λ (k : ℕ). getD t (k - at) 0) ⌝ }
+pub(crate) fn put_block(buf: &mut [u8], at: usize, t: [u8; 64])
+    requires { ⌜ at + 64 ≤ length (now buf) ⌝ }
+    ensures { λ _. ⌜ Filled (now (buf .entry)) (now (buf .exit)) at (at + 64) (λ (k : ℕ). getD t (k - at) 0) ⌝ }
 {
     let mut j = 0;
-    while j < 32 {
+    while j < 64 {
         buf[at + j] = t[j];
         j += 1;
     }

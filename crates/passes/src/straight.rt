@@ -1,24 +1,24 @@
-// A pass whose partners stand side by side in one row. The block at the far end is made before the others and stored after them, over what these have
-// made of some of it: so nothing is left to go one by one.
+// A pass whose partners stand side by side in one row. The last two blocks overlap, so that nothing is left to go one by one: both are made before either
+// is stored. They come last, since what they read may still be on its way from the pass before.
 use crate::block::brighter;
 use crate::block::darker;
 use crate::block::put_block;
 use crate::reach::is_downward;
 use crate::reach::is_upward;
 ghost use mathlib.Core.Path.{_≡_};
-ghost use Prim.Native.Nat.{ℕ, _+_, _*_, _/_, _%_, _≤_, _<_, min, max};
+ghost use Prim.Native.Nat.{ℕ, _+_, _-_, _*_, _/_, _≤_, _<_, min, max};
 ghost use lib.ListN.{length, getD};
 ghost use Rattle.lists.specs.Stores.{Filled};
 ghost use Rattle.passes.specs.Passes.{straight, met, Upward, Downward, Darkens, Brightens};
 
 // The darker of each byte and its partner, for the block that begins i bytes into the rows.
-fn darker_block(buf: &[u8], at: usize, from: usize, i: usize) -> [u8; 32]
-    requires { ⌜ (at + i + 32 ≤ length (now buf)) × (from + i + 32 ≤ length (now buf)) ⌝ }
-    ensures { λ t. ⌜ ((k : ℕ) → k < 32 → getD t k 0 ≡ min (getD (now (buf .entry)) (at + (i + k)) 0) (straight from (now (buf .entry)) (i + k))) ⌝ }
+fn darker_block(buf: &[u8], at: usize, from: usize, i: usize) -> [u8; 64]
+    requires { ⌜ (at + i + 64 ≤ length (now buf)) × (from + i + 64 ≤ length (now buf)) ⌝ }
+    ensures { λ t. ⌜ ((k : ℕ) → k < 64 → getD t k 0 ≡ min (getD (now (buf .entry)) (at + (i + k)) 0) (straight from (now (buf .entry)) (i + k))) ⌝ }
 {
-    let mut t = [0u8; 32];
+    let mut t = [0u8; 64];
     let mut j = 0;
-    while j < 32 {
+    while j < 64 {
         let k = i + j;
         t[j] = darker(buf[at + k], buf[from + k]);
         j += 1;
@@ -38,15 +38,14 @@ fn darken_few(buf: &mut [u8], at: usize, from: usize, n: usize)
     }
 }
 
-// The same by blocks, as many as n has.
-fn darken_blocks(buf: &mut [u8], at: usize, from: usize, n: usize)
-    requires { ⌜ Upward at from n (length (now buf)) ⌝ }
-    ensures { λ _. ⌜ Filled (now (buf .entry)) (now (buf .exit)) at (at + 32 * (n / 32)) (met min (straight from) at (now (buf .entry))) ⌝ }
+// The same of the first blocks.
+fn darken_blocks(buf: &mut [u8], at: usize, from: usize, n: usize, blocks: usize)
+    requires { ⌜ Upward at from n (length (now buf)) × (64 * blocks ≤ n) ⌝ }
+    ensures { λ _. ⌜ Filled (now (buf .entry)) (now (buf .exit)) at (at + 64 * blocks) (met min (straight from) at (now (buf .entry))) ⌝ }
 {
-    let blocks = n / 32;
     let mut k = 0;
     while k < blocks {
-        let i = 32 * k;
+        let i = 64 * k;
         let t = darker_block(buf, at, from, i);
         put_block(buf, at + i, t);
         k += 1;
@@ -57,13 +56,17 @@ fn darken_row(buf: &mut [u8], at: usize, from: usize, n: usize)
     requires { ⌜ Upward at from n (length (now buf)) ⌝ }
     ensures { λ _. ⌜ Filled (now (buf .entry)) (now (buf .exit)) at (at + n) (met min (straight from) at (now (buf .entry))) ⌝ }
 {
-    if n < 32 {
+    if n < 65 {
         darken_few(buf, at, from, n);
         return;
     }
-    let last = darker_block(buf, at, from, n - 32);
-    darken_blocks(buf, at, from, n);
-    put_block(buf, at + (n - 32), last);
+    let blocks = (n - 65) / 64;
+    let i = 64 * blocks;
+    darken_blocks(buf, at, from, n, blocks);
+    let next = darker_block(buf, at, from, i);
+    let last = darker_block(buf, at, from, n - 64);
+    put_block(buf, at + i, next);
+    put_block(buf, at + (n - 64), last);
 }
 
 // Each of the n bytes from `at` on becomes the darker of itself and its partner among those from `from` on. Where one of them is not in the buffer, or the
@@ -78,13 +81,13 @@ pub fn darken(buf: &mut [u8], at: usize, from: usize, n: usize)
 }
 
 // The brighter of each byte and its partner, for the block that begins i bytes into the rows.
-fn brighter_block(buf: &[u8], at: usize, from: usize, i: usize) -> [u8; 32]
-    requires { ⌜ (at + i + 32 ≤ length (now buf)) × (from + i + 32 ≤ length (now buf)) ⌝ }
-    ensures { λ t. ⌜ ((k : ℕ) → k < 32 → getD t k 0 ≡ max (getD (now (buf .entry)) (at + (i + k)) 0) (straight from (now (buf .entry)) (i + k))) ⌝ }
+fn brighter_block(buf: &[u8], at: usize, from: usize, i: usize) -> [u8; 64]
+    requires { ⌜ (at + i + 64 ≤ length (now buf)) × (from + i + 64 ≤ length (now buf)) ⌝ }
+    ensures { λ t. ⌜ ((k : ℕ) → k < 64 → getD t k 0 ≡ max (getD (now (buf .entry)) (at + (i + k)) 0) (straight from (now (buf .entry)) (i + k))) ⌝ }
 {
-    let mut t = [0u8; 32];
+    let mut t = [0u8; 64];
     let mut j = 0;
-    while j < 32 {
+    while j < 64 {
         let k = i + j;
         t[j] = brighter(buf[at + k], buf[from + k]);
         j += 1;
@@ -104,16 +107,16 @@ fn brighten_few(buf: &mut [u8], at: usize, from: usize, n: usize)
     }
 }
 
-// The same by blocks, up to the last byte, as many as n has.
-fn brighten_blocks(buf: &mut [u8], at: usize, from: usize, n: usize)
-    requires { ⌜ Downward at from n (length (now buf)) ⌝ }
-    ensures { λ _. ⌜ Filled (now (buf .entry)) (now (buf .exit)) (at + n % 32) (at + n) (met max (straight from) at (now (buf .entry))) ⌝ }
+// The same of the last blocks.
+fn brighten_blocks(buf: &mut [u8], at: usize, from: usize, n: usize, blocks: usize)
+    requires { ⌜ Downward at from n (length (now buf)) × (64 * blocks ≤ n) ⌝ }
+    ensures { λ _. ⌜ Filled (now (buf .entry)) (now (buf .exit)) (at + (n - 64 * blocks)) (at + n) (met max (straight from) at (now (buf .entry))) ⌝ }
 {
-    let rest = n % 32;
-    let mut k = n / 32;
+    let rest = n - 64 * blocks;
+    let mut k = blocks;
     while 0 < k {
         k -= 1;
-        let i = rest + 32 * k;
+        let i = rest + 64 * k;
         let t = brighter_block(buf, at, from, i);
         put_block(buf, at + i, t);
     }
@@ -123,12 +126,16 @@ fn brighten_row(buf: &mut [u8], at: usize, from: usize, n: usize)
     requires { ⌜ Downward at from n (length (now buf)) ⌝ }
     ensures { λ _. ⌜ Filled (now (buf .entry)) (now (buf .exit)) at (at + n) (met max (straight from) at (now (buf .entry))) ⌝ }
 {
-    if n < 32 {
+    if n < 65 {
         brighten_few(buf, at, from, n);
         return;
     }
+    let blocks = (n - 65) / 64;
+    let i = n - 64 * blocks - 64;
+    brighten_blocks(buf, at, from, n, blocks);
+    let next = brighter_block(buf, at, from, i);
     let first = brighter_block(buf, at, from, 0);
-    brighten_blocks(buf, at, from, n);
+    put_block(buf, at + i, next);
     put_block(buf, at, first);
 }
 

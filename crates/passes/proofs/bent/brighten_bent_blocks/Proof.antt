@@ -1,6 +1,6 @@
 -- Block by block: what is still to be read is as it was.
 use mathlib.Core.Path.{_≡_}
-use Prim.Native.Nat.{_+_, _-_, _*_, _%_, _≤_, max}
+use Prim.Native.Nat.{_+_, _-_, _*_, _≤_, max}
 use native.Mathlib.Omega.{arith}
 use Rattle.lists.specs.Stores.{Filled}
 use Rattle.lists.proofs.Stores.{filled-none, filled-start}
@@ -11,10 +11,16 @@ use Rattle.passes.proofs.bent.brighten_bent_blocks.Statement.{statement
 use Rattle.passes.proofs.bent.brighten_bent_blocks.Tie as tie
 
 abbrev Inv-loop : tie.InvT-loop
-Inv-loop buf₀ bends at near far n rest k₀ buf k = (rest + 32 * k ≤ n) × Filled buf₀ buf (at + (rest + 32 * k)) (at + n) (met max (bent bends near far) at buf₀)
+Inv-loop buf₀ bends at near far n blocks rest k₀ buf k = (rest + 64 * k ≤ n) × Filled buf₀ buf (at + (rest + 64 * k)) (at + n) (met max (bent bends near far) at buf₀)
 
 abbrev μ-loop : tie.MeasureT-loop
-μ-loop buf₀ bends at near far n rest k₀ buf k = k
+μ-loop buf₀ bends at near far n blocks rest k₀ buf k = k
+
+mul-rest : tie.Need-mul-rest Inv-loop μ-loop
+mul-rest c = search needs
+
+sub-rest : tie.Need-sub-rest Inv-loop μ-loop
+sub-rest c = search needs
 
 loop-holds : tie.Need-loop-holds Inv-loop μ-loop
 loop-holds c = (omega arith, filled-start (filled-none _ _ _) (omega arith))
@@ -48,7 +54,7 @@ loop-again c =
     let more = c .before .before .before .before .before .before .loop-test .taken in
     let block = c .before .before .before .before .brighter-bent-block in (
       omega (arith, at .inv .0),
-      met-block-before max (bent (a .bends .now) (a .near) (a .far)) (a .at) (a .n) (bent-outlasts (a .bends .now) (a .at) (a .near) (a .far) (a .n) (p .0 .2) (p .1 .2)) 32 (block .result) (a .n % 32 + 32 * (at .k - 1)) (at .inv .1)
+      met-block-before max (bent (a .bends .now) (a .near) (a .far)) (a .at) (a .n) (bent-outlasts (a .bends .now) (a .at) (a .near) (a .far) (a .n) (p .0 .2) (p .1 .2)) 64 (block .result) (a .n - 64 * a .blocks + 64 * (at .k - 1)) (at .inv .1)
           (omega (arith, more)) (omega (arith, at .inv .0)) (block .ensures) (c .before .before .put-block .ensures),
     )
 
@@ -58,7 +64,7 @@ same-length c = c .before .loop .inv .1 .same
 returns : tie.Need-returns Inv-loop μ-loop
 returns c =
     let a = c .before .before .before .before .args in
-    let end : a .at + (a .n % 32 + 32 * c .before .loop .k) ≡ a .at + a .n % 32 = omega (arith, c .loop-test .left) in
+    let end : a .at + (a .n - 64 * a .blocks + 64 * c .before .loop .k) ≡ a .at + (a .n - 64 * a .blocks) = omega (arith, c .loop-test .left, c .before .loop .inv .0) in
     filled-start (c .before .loop .inv .1) end
 
 pub brighten-bent-blocks-spec : {M : Type 1} → statement M
@@ -67,6 +73,8 @@ brighten-bent-blocks-spec =
     (tie.spec
     Inv-loop
     μ-loop
+    mul-rest
+    sub-rest
     loop-holds
     sub-k
     mul-i

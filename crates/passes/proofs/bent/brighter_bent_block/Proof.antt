@@ -12,10 +12,10 @@ use Rattle.passes.proofs.bent.brighter_bent_block.Statement.{statement}
 use Rattle.passes.proofs.bent.brighter_bent_block.Tie as tie
 
 abbrev Inv-loop : tie.InvT-loop
-Inv-loop buf bends at near far i t₀ j₀ t j = (j ≤ 32) × (length t₀ ≡ 32) × Filled t₀ t 0 j (λ (k : ℕ). max (getD buf (at + (i + k)) 0) (bent bends near far buf (i + k)))
+Inv-loop buf bends at near far i t₀ j₀ t j = (j ≤ 64) × (length t₀ ≡ 64) × Filled t₀ t 0 j (λ (k : ℕ). max (getD buf (at + (i + k)) 0) (bent bends near far buf (i + k)))
 
 abbrev μ-loop : tie.MeasureT-loop
-μ-loop buf bends at near far i t₀ j₀ t j = 32 - j
+μ-loop buf bends at near far i t₀ j₀ t j = 64 - j
 
 loop-holds : tie.Need-loop-holds Inv-loop μ-loop
 loop-holds c = (omega arith, search needs, filled-none _ _ _)

@@ -1,9 +1,10 @@
--- Few bytes one by one; else by blocks, and the one at the far end over them.
+-- Few bytes one by one; else by blocks, the last two of which overlap.
 use mathlib.Core.Path.{refl}
-use Prim.Native.Nat.{_-_, min}
+use Prim.Native.Nat.{_-_, _*_, _/_, min}
+use native.Mathlib.Nat.{le-refl}
 use native.Mathlib.Omega.{arith}
 use Rattle.passes.specs.Passes.{bent}
-use Rattle.passes.proofs.Blocks.{met-last}
+use Rattle.passes.proofs.Blocks.{bent-awaits, met-late, met-block, met-last}
 use borrow.Author.Needs.{needs}
 use Rattle.passes.proofs.bent.darken_bent_row.Statement.{statement}
 use Rattle.passes.proofs.bent.darken_bent_row.Tie as tie
@@ -15,13 +16,22 @@ same-length : tie.Need-same-length
 same-length c = search needs
 
 returns : tie.Need-returns
-returns c = c .before .before .darken-bent-few .ensures
+returns c = search needs
+
+mul-i : tie.Need-mul-i
+mul-i c = search needs
+
+darken-bent-blocks-requires : tie.Need-darken-bent-blocks-requires
+darken-bent-blocks-requires c κs = search needs
 
 darker-bent-block-requires : tie.Need-darker-bent-block-requires
 darker-bent-block-requires c κs = search needs
 
-darken-bent-blocks-requires : tie.Need-darken-bent-blocks-requires
-darken-bent-blocks-requires c κs = search needs
+sub-darker-bent-block : tie.Need-sub-darker-bent-block
+sub-darker-bent-block c = search needs
+
+darker-bent-block-requires-2 : tie.Need-darker-bent-block-requires-2
+darker-bent-block-requires-2 c κs = search needs
 
 add-put-block : tie.Need-add-put-block
 add-put-block c = search needs
@@ -29,16 +39,34 @@ add-put-block c = search needs
 put-block-requires : tie.Need-put-block-requires
 put-block-requires c κs = search needs
 
+sub-put-block : tie.Need-sub-put-block
+sub-put-block c = search needs
+
+add-put-block-2 : tie.Need-add-put-block-2
+add-put-block-2 c = search needs
+
+put-block-requires-2 : tie.Need-put-block-requires-2
+put-block-requires-2 c κs = search needs
+
 same-length-2 : tie.Need-same-length-2
 same-length-2 c = search needs
 
 returns-2 : tie.Need-returns-2
 returns-2 c =
-    let a = c .before .before .before .before .before .before .before .before .before .before .before .before .before .args in
-    let block = c .before .before .before .before .before .before .before .before .darker-bent-block in
-    let wide = c .before .before .before .before .before .before .before .before .before .before .if1 .left in
-    met-last min (bent (a .bends .now) (a .near) (a .far)) (a .at) (a .buf .now) 32 (block .result) (a .n - 32) _ (block .ensures)
-    (c .before .before .put-block .ensures) refl (c .before .before .before .before .before .before .darken-bent-blocks .ensures) (omega (arith, wide)) (omega arith) (omega (arith, wide))
+    let a = c .before .before .before .before .before .before .before .before .before .before .before .before .before .before .before .before .before .before .before .args in
+    let p = c .before .before .before .before .before .before .before .before .before .before .before .before .before .before .before .before .before .before .before .pre in
+    let wide = c .before .before .before .before .before .before .before .before .before .before .before .before .before .before .before .before .if1 .left in
+    let partner = bent (a .bends .now) (a .near) (a .far) in
+    let stay = bent-awaits (a .bends .now) (a .at) (a .near) (a .far) (a .n) (p .0 .2) (p .1 .2) in
+    let i = 64 * ((a .n - 65) / 64) in
+    let front = c .before .before .before .before .before .before .before .before .before .before .before .before .before .before .darken-bent-blocks .ensures in
+    let next = c .before .before .before .before .before .before .before .before .before .before .darker-bent-block in
+    let last = c .before .before .before .before .before .before .before .before .darker-bent-block2 in
+    let later = met-late min partner (a .at) (a .n) stay 64 (last .result) (a .n - 64) front (le-refl (a .at)) (omega arith) (omega (arith, wide)) (omega (arith, wide))
+    (last .ensures) in
+    let more = met-block min partner (a .at) (a .n) stay 64 (next .result) i front (omega (arith, wide)) (next .ensures) (c .before .before .before .before .before .before .put-block .ensures) in
+    met-last min partner (a .at) (a .buf .now) 64 (last .result) (a .n - 64) _ later (c .before .before .put-block2 .ensures) refl more (omega (arith, wide))
+    (omega (arith, wide)) (omega (arith, wide))
 
 pub darken-bent-row-spec : {M : Type 1} → statement M
 darken-bent-row-spec =
@@ -47,9 +75,15 @@ darken-bent-row-spec =
     darken-bent-few-requires
     same-length
     returns
-    darker-bent-block-requires
+    mul-i
     darken-bent-blocks-requires
+    darker-bent-block-requires
+    sub-darker-bent-block
+    darker-bent-block-requires-2
     add-put-block
     put-block-requires
+    sub-put-block
+    add-put-block-2
+    put-block-requires-2
     same-length-2
     returns-2)

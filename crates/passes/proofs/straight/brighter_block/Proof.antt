@@ -11,10 +11,10 @@ use Rattle.passes.proofs.straight.brighter_block.Statement.{statement}
 use Rattle.passes.proofs.straight.brighter_block.Tie as tie
 
 abbrev Inv-loop : tie.InvT-loop
-Inv-loop buf at from i t₀ j₀ t j = (j ≤ 32) × (length t₀ ≡ 32) × Filled t₀ t 0 j (λ (k : ℕ). max (getD buf (at + (i + k)) 0) (straight from buf (i + k)))
+Inv-loop buf at from i t₀ j₀ t j = (j ≤ 64) × (length t₀ ≡ 64) × Filled t₀ t 0 j (λ (k : ℕ). max (getD buf (at + (i + k)) 0) (straight from buf (i + k)))
 
 abbrev μ-loop : tie.MeasureT-loop
-μ-loop buf at from i t₀ j₀ t j = 32 - j
+μ-loop buf at from i t₀ j₀ t j = 64 - j
 
 loop-holds : tie.Need-loop-holds Inv-loop μ-loop
 loop-holds c = (omega arith, search needs, filled-none _ _ _)

@@ -1,6 +1,6 @@
 -- Block by block: what is still to be read is as it was.
 use mathlib.Core.Path.{_≡_}
-use Prim.Native.Nat.{_+_, _-_, _*_, _/_, _≤_, min}
+use Prim.Native.Nat.{_+_, _-_, _*_, _≤_, min}
 use native.Mathlib.Omega.{arith}
 use Rattle.lists.specs.Stores.{Filled}
 use Rattle.lists.proofs.Stores.{filled-none, filled-end}
@@ -11,10 +11,10 @@ use Rattle.passes.proofs.straight.darken_blocks.Statement.{statement}
 use Rattle.passes.proofs.straight.darken_blocks.Tie as tie
 
 abbrev Inv-loop : tie.InvT-loop
-Inv-loop buf₀ at from n blocks k₀ buf k = (k ≤ n / 32) × Filled buf₀ buf at (at + 32 * k) (met min (straight from) at buf₀)
+Inv-loop buf₀ at from n blocks k₀ buf k = (k ≤ blocks) × Filled buf₀ buf at (at + 64 * k) (met min (straight from) at buf₀)
 
 abbrev μ-loop : tie.MeasureT-loop
-μ-loop buf₀ at from n blocks k₀ buf k = n / 32 - k
+μ-loop buf₀ at from n blocks k₀ buf k = blocks - k
 
 loop-holds : tie.Need-loop-holds Inv-loop μ-loop
 loop-holds c = (omega arith, filled-end (filled-none _ _ _) (omega arith))
@@ -44,7 +44,7 @@ loop-again c =
     let at = c .before .before .before .before .before .before .before .loop in
     let more = c .before .before .before .before .before .before .loop-test .taken in
     let block = c .before .before .before .before .darker-block in
-    let grown = met-block min (straight (a .from)) (a .at) (a .n) (straight-awaits (a .at) (a .from) (a .n) (p .2)) 32 (block .result) (32 * at .k) (at .inv .1)
+    let grown = met-block min (straight (a .from)) (a .at) (a .n) (straight-awaits (a .at) (a .from) (a .n) (p .0 .2)) 64 (block .result) (64 * at .k) (at .inv .1)
     (omega (arith, more)) (block .ensures) (c .before .before .put-block .ensures) in
     (omega (arith, more), filled-end grown (omega arith))
 
@@ -54,7 +54,7 @@ same-length c = c .before .loop .inv .1 .same
 returns : tie.Need-returns Inv-loop μ-loop
 returns c =
     let a = c .before .before .before .args in
-    let end : a .at + 32 * c .before .loop .k ≡ a .at + 32 * (a .n / 32) = omega (arith, c .loop-test .left) in
+    let end : a .at + 64 * c .before .loop .k ≡ a .at + 64 * a .blocks = omega (arith, c .loop-test .left, c .before .loop .inv .0) in
     filled-end (c .before .loop .inv .1) end
 
 pub darken-blocks-spec : {M : Type 1} → statement M

@@ -1,9 +1,10 @@
--- Few bytes one by one; else by blocks, and the one at the far end over them.
+-- Few bytes one by one; else by blocks, the last two of which overlap.
 use mathlib.Core.Path.{refl}
-use Prim.Native.Nat.{_-_, min}
+use Prim.Native.Nat.{_-_, _*_, _/_, min}
+use native.Mathlib.Nat.{le-refl}
 use native.Mathlib.Omega.{arith}
 use Rattle.passes.specs.Passes.{straight}
-use Rattle.passes.proofs.Blocks.{met-last}
+use Rattle.passes.proofs.Blocks.{straight-awaits, met-late, met-block, met-last}
 use borrow.Author.Needs.{needs}
 use Rattle.passes.proofs.straight.darken_row.Statement.{statement}
 use Rattle.passes.proofs.straight.darken_row.Tie as tie
@@ -15,13 +16,22 @@ same-length : tie.Need-same-length
 same-length c = search needs
 
 returns : tie.Need-returns
-returns c = c .before .before .darken-few .ensures
+returns c = search needs
+
+mul-i : tie.Need-mul-i
+mul-i c = search needs
+
+darken-blocks-requires : tie.Need-darken-blocks-requires
+darken-blocks-requires c κs = search needs
 
 darker-block-requires : tie.Need-darker-block-requires
 darker-block-requires c κs = search needs
 
-darken-blocks-requires : tie.Need-darken-blocks-requires
-darken-blocks-requires c κs = search needs
+sub-darker-block : tie.Need-sub-darker-block
+sub-darker-block c = search needs
+
+darker-block-requires-2 : tie.Need-darker-block-requires-2
+darker-block-requires-2 c κs = search needs
 
 add-put-block : tie.Need-add-put-block
 add-put-block c = search needs
@@ -29,16 +39,34 @@ add-put-block c = search needs
 put-block-requires : tie.Need-put-block-requires
 put-block-requires c κs = search needs
 
+sub-put-block : tie.Need-sub-put-block
+sub-put-block c = search needs
+
+add-put-block-2 : tie.Need-add-put-block-2
+add-put-block-2 c = search needs
+
+put-block-requires-2 : tie.Need-put-block-requires-2
+put-block-requires-2 c κs = search needs
+
 same-length-2 : tie.Need-same-length-2
 same-length-2 c = search needs
 
 returns-2 : tie.Need-returns-2
 returns-2 c =
-    let a = c .before .before .before .before .before .before .before .before .before .before .before .before .args in
-    let block = c .before .before .before .before .before .before .before .before .darker-block in
-    let wide = c .before .before .before .before .before .before .before .before .before .before .if1 .left in
-    met-last min (straight (a .from)) (a .at) (a .buf .now) 32 (block .result) (a .n - 32) _ (block .ensures)
-    (c .before .before .put-block .ensures) refl (c .before .before .before .before .before .before .darken-blocks .ensures) (omega (arith, wide)) (omega arith) (omega (arith, wide))
+    let a = c .before .before .before .before .before .before .before .before .before .before .before .before .before .before .before .before .before .before .args in
+    let p = c .before .before .before .before .before .before .before .before .before .before .before .before .before .before .before .before .before .before .pre in
+    let wide = c .before .before .before .before .before .before .before .before .before .before .before .before .before .before .before .before .if1 .left in
+    let partner = straight (a .from) in
+    let stay = straight-awaits (a .at) (a .from) (a .n) (p .2) in
+    let i = 64 * ((a .n - 65) / 64) in
+    let front = c .before .before .before .before .before .before .before .before .before .before .before .before .before .before .darken-blocks .ensures in
+    let next = c .before .before .before .before .before .before .before .before .before .before .darker-block in
+    let last = c .before .before .before .before .before .before .before .before .darker-block2 in
+    let later = met-late min partner (a .at) (a .n) stay 64 (last .result) (a .n - 64) front (le-refl (a .at)) (omega arith) (omega (arith, wide)) (omega (arith, wide))
+    (last .ensures) in
+    let more = met-block min partner (a .at) (a .n) stay 64 (next .result) i front (omega (arith, wide)) (next .ensures) (c .before .before .before .before .before .before .put-block .ensures) in
+    met-last min partner (a .at) (a .buf .now) 64 (last .result) (a .n - 64) _ later (c .before .before .put-block2 .ensures) refl more (omega (arith, wide))
+    (omega (arith, wide)) (omega (arith, wide))
 
 pub darken-row-spec : {M : Type 1} → statement M
 darken-row-spec =
@@ -47,9 +75,15 @@ darken-row-spec =
     darken-few-requires
     same-length
     returns
-    darker-block-requires
+    mul-i
     darken-blocks-requires
+    darker-block-requires
+    sub-darker-block
+    darker-block-requires-2
     add-put-block
     put-block-requires
+    sub-put-block
+    add-put-block-2
+    put-block-requires-2
     same-length-2
     returns-2)
