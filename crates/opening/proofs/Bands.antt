@@ -1,6 +1,7 @@
 -- The rows of a frame painted one after the other: the first n rows are a frame of height n.
 --   rows-none, rows-more       no row, and one row more
 --   rows-put                   one row more, lent as a part and put back
+--   rows-next                  the row behind the painted ones is as it was
 --   rows-end                   the count of rows known by an equation
 -- Assumes nothing.
 use mathlib.Core.Path.{_≡_, refl, sym, ap, _∙_, subst}
@@ -48,6 +49,9 @@ module _ (width stride : ℕ) (G : ℕ → ℕ → ℕ) where
           let k : n * stride + x - n * stride ≡ x = omega arith in
           subst (λ (m : ℕ). getD b (m * stride + x) 0 ≡ G x m) (sym e)
           (f .within (n * stride + x) (omega arith) (omega arith) ∙ ap (λ (m : ℕ). G m n) k)
+
+  pub rows-next : {g a : List ℕ} (n x : ℕ) → width ≤ stride → Painted (shape width n stride) G g a → getD a (n * stride + x) 0 ≡ getD g (n * stride + x) 0
+  rows-next n x past p = p .gaps (n * stride + x) (λ x′ y h l e. omega (arith, steps-le (y + 1) n stride (omega arith), next-step y stride))
 
   -- row n is lent as the k bytes from its place on, and comes back as e
   pub rows-put : {g a : List ℕ} (e : List ℕ) (n k : ℕ) → width ≤ stride → n * stride + width ≤ length a → Painted (shape width n stride) G g a → k ≡ width → length e ≡ k

@@ -1,5 +1,4 @@
 -- The laws of opening/specs.
---   Inplace   a frame copied, and opened where it stands
 --   Bands       a frame painted row by row
 --   Along       along, a line is a row
 --   Inplace     a frame copied, and opened where it stands
