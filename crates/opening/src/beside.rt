@@ -4,7 +4,7 @@ use crate::rowwise::open_rows;
 use answer::LONGEST;
 use frame::Direction;
 use frame::Shape;
-use strips::put_frame;
+use strips::raise_frame;
 ghost use mathlib.Core.Path.{_≡_};
 ghost use mathlib.Core.Bool.{true};
 ghost use Prim.Native.Nat.{ℕ, _*_, _≤_, _<_, max};
@@ -91,7 +91,7 @@ pub(crate) fn raise_by(
     ensures { λ _. ⌜ Painted shape (λ (x y : ℕ). max (getD (now (dst .entry)) (place shape (at x y)) 0) (openedPixel (now (src .entry)) shape d length x y)) (now (dst .entry)) (now (dst .exit)) ⌝ }
 {
     if scratch.len() < shape.width * shape.height {
-        put_frame(src, true, shape, d, length, dst, scratch);
+        raise_frame(src, shape, d, length, dst, scratch);
         return;
     }
     opened_beside(src, shape, d, length, scratch);

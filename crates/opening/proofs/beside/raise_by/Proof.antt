@@ -1,4 +1,4 @@
--- By strips as `put_frame` says; else the opened frame raises the destination.
+-- By strips as `raise_frame` says; else the opened frame raises the destination.
 use mathlib.Core.Path.{ap}
 use Prim.Native.Nat.{max}
 use native.Mathlib.Omega.{arith}
@@ -16,8 +16,8 @@ mul-if1 c =
     let b = c .before .before .before .before in
     omega (arith, area-small (framed (b .args .shape) (b .pre .ok .frame)))
 
-put-frame-requires : tie.Need-put-frame-requires
-put-frame-requires c κs = search needs
+raise-frame-requires : tie.Need-raise-frame-requires
+raise-frame-requires c κs = search needs
 
 same-length : tie.Need-same-length
 same-length c = search needs
@@ -28,7 +28,7 @@ same-length-2 c = search needs
 returns : tie.Need-returns
 returns c =
     let b = c .before .before .before .before .before .before .before .before .before .before .before .before in
-    c .before .before .before .before .put-frame .ensures .fitted (ready-fits (b .args .shape) (b .args .d) (b .args .length) _ _ _ (b .pre))
+    c .before .before .before .before .raise-frame .ensures .fitted (ready-fits (b .args .shape) (b .args .d) (b .args .length) _ _ _ (b .pre))
 
 opened-beside-requires : tie.Need-opened-beside-requires
 opened-beside-requires c κs =
@@ -58,7 +58,7 @@ raise-by-spec =
     tie.close
     (tie.spec
     mul-if1
-    put-frame-requires
+    raise-frame-requires
     same-length
     same-length-2
     returns
