@@ -18,7 +18,7 @@ ghost use Rattle.strips.specs.Engine.{packed};
 ghost use Rattle.strips.specs.Strips.{Ready};
 
 // The frame src, opened in the direction d, into `work`, a frame of the same pixels without gaps: a copy, by windows of one pixel, is opened where it stands.
-fn opened_beside(src: &[u8], shape: Shape, d: Direction, length: usize, work: &mut [u8])
+pub(crate) fn opened_beside(src: &[u8], shape: Shape, d: Direction, length: usize, work: &mut [u8])
     requires { ⌜ Accepted shape d × (1 ≤ length) × (needed shape ≤ lib.ListN.length (now src)) × (shape .width * shape .height ≤ lib.ListN.length (now work)) ⌝ }
     ensures { λ _. ⌜ Painted (packed shape) (openedPixel (now (src .entry)) shape d length) (now (work .entry)) (now (work .exit)) ⌝ }
 {

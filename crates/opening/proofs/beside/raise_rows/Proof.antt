@@ -3,8 +3,7 @@ use mathlib.Core.Path.{_≡_, sym, ap, ap₂, _∙_}
 use mathlib.Core.List.{List}
 use Prim.Native.Nat.{ℕ, _+_, _-_, _*_, _≤_, max}
 use native.Mathlib.Omega.{arith}
-use lib.ListN.{length as size, getD, drop, length-drop}
-use lib.Seq.{length-take-le, getD-take, getD-drop}
+use lib.ListN.{length as size, getD}
 use Rattle.frame.specs.Shape.{shape, needed}
 use Rattle.frame.proofs.Shapes.{framed}
 use Rattle.strips.specs.Pixels.{Painted}
@@ -12,7 +11,7 @@ use Rattle.strips.specs.Engine.{packed}
 use Rattle.strips.proofs.Claims.{packed-frame, packed-needed}
 use Rattle.strips.proofs.Eights.{steps-le}
 use Rattle.opening.proofs.Along.{row-length, row-pixel}
-use Rattle.opening.proofs.Bands.{rows-none, rows-put, rows-next, rows-end}
+use Rattle.opening.proofs.Bands.{part-length, rows-none, rows-put, rows-lent, rows-end}
 use borrow.Author.Needs.{needs}
 use Rattle.opening.proofs.beside.raise_rows.Statement.{statement}
 use Rattle.opening.proofs.beside.raise_rows.Tie as tie
@@ -60,13 +59,11 @@ raise-row-requires c κs =
     let loop = c .before .before .before .before .loop in
     let taken = c .before .before .before .loop-test .taken in
     let sides = framed (a .shape) (pre .0) in
-    let from = loop .y * a .shape .stride in
     let room : needed (packed (a .shape)) ≤ size (a .work .now) = omega (arith, packed-needed (a .shape) (sides .high), pre .1) in
     let row : size (c .before .row .result .now) ≡ a .shape .width =
     ap size (c .before .row .ensures) ∙ row-length (a .work .now) (packed (a .shape)) (loop .y) (packed-frame (a .shape) (pre .0)) room (omega (arith, taken)) in
     let fits = steps-le (loop .y) (a .shape .height - 1) (a .shape .stride) (omega (arith, taken)) in
-    let part = length-take-le (from + a .shape .width - from) (drop from (loop .dst)) (omega (arith, length-drop from (loop .dst), loop .inv .1 .same, fits, pre .2)) in
-    row ∙ sym (part ∙ omega arith)
+    row ∙ sym (part-length (loop .y * a .shape .stride) (a .shape .width) (loop .dst) (omega (arith, loop .inv .1 .same, fits, pre .2)))
 
 add-y : tie.Need-add-y Inv-loop μ-loop
 add-y c = search needs
@@ -86,16 +83,14 @@ loop-again c =
     let from = loop .y * a .shape .stride in
     let room : needed (packed (a .shape)) ≤ size (a .work .now) = omega (arith, packed-needed (a .shape) (sides .high), pre .1) in
     let fits = steps-le (loop .y) (a .shape .height - 1) (a .shape .stride) (omega (arith, taken)) in
-    let k = from + a .shape .width - from in
-    let part = length-take-le k (drop from (loop .dst)) (omega (arith, length-drop from (loop .dst), loop .inv .1 .same, fits, pre .2)) in (
+    let part = part-length from (a .shape .width) (loop .dst) (omega (arith, loop .inv .1 .same, fits, pre .2)) in (
       omega (arith, taken),
-      rows-put (a .shape .width) (a .shape .stride) _ (raised .last .1 .0) (loop .y) _ (sides .past)
-          (omega (arith, loop .inv .1 .same, fits, pre .2)) (loop .inv .1) (omega arith) (raised .kept .1 .0 ∙ part)
+      rows-put (a .shape .width) (a .shape .stride) _ (raised .last .1 .0) (loop .y) (sides .past)
+          (omega (arith, loop .inv .1 .same, fits, pre .2)) (loop .inv .1) (raised .kept .1 .0 ∙ part)
           (λ x h.
           raised .ensures x (omega (arith, part))
           ∙ ap₂ max
-          (getD-take k (drop from (loop .dst)) x 0 (omega arith) ∙ getD-drop from (loop .dst) x 0
-          ∙ rows-next (a .shape .width) (a .shape .stride) _ (loop .y) x (sides .past) (loop .inv .1))
+          (rows-lent (a .shape .width) (a .shape .stride) _ (loop .y) x (sides .past) (loop .inv .1) h)
           (ap (λ (l : List ℕ). getD l x 0) (row .ensures)
           ∙ row-pixel (a .work .now) (packed (a .shape)) (loop .y) (packed-frame (a .shape) (pre .0)) room (omega (arith, taken)) x h)),
     )
