@@ -1,5 +1,5 @@
 -- Along, a line is a row.
---   row-is, row-length     the row that is lent back, and its length
+--   row-is, row-length, row-pixel    the row that is lent back, its length and its pixels
 --   along-opened           an opened pixel, in a direction without a slope, by its row
 -- Assumes nothing.
 use mathlib.Core.Path.{_≡_, refl, sym, ap, _∙_}
@@ -20,12 +20,12 @@ use Rattle.frame.specs.declared.sweep.Sweep.{Sweep}
 use Rattle.frame.specs.Direction.{shallow, opposite}
 use Rattle.frame.specs.Shape.{isFrame, needed}
 use Rattle.frame.specs.Lines as lines
-use Rattle.frame.specs.Lines.{r, Pixel, at}
+use Rattle.frame.specs.Lines.{r, at, place}
 use Rattle.frame.specs.Rows.{rowOf}
 use Rattle.frame.specs.Sweep as sweep
 use Rattle.frame.specs.Sweep.{sweeping, sweepOf, shift, cell, value, Accepted, Sane}
-use Rattle.frame.proofs.Shapes.{framed, sweep-sane}
-use Rattle.frame.proofs.Walks.{spot, hit-at, value-on}
+use Rattle.frame.proofs.Shapes.{sweep-sane}
+use Rattle.frame.proofs.Walks.{hit-at, value-on}
 use Rattle.frame.proofs.Spans.{shift-falling, shift-rising}
 use Rattle.strips.specs.Pixels.{openedPixel}
 use Rattle.strips.specs.Strips as strips
@@ -45,6 +45,10 @@ module _ (f : List ℕ) (sh : Shape) (y : ℕ) (ok : isFrame sh ≡ true) (fits 
   pub row-length : length (rowOf f sh y) ≡ sh .width
   row-length =
       ap length row-is ∙ length-take-le (sh .width) (drop (y * sh .stride) f) (omega (arith, length-drop (y * sh .stride) f, row-fits))
+
+  pub row-pixel : (x : ℕ) → x < sh .width → getD (rowOf f sh y) x 0 ≡ getD f (place sh (at x y)) 0
+  row-pixel x h =
+      ap (λ (l : List ℕ). getD l x 0) row-is ∙ getD-take (sh .width) (drop (y * sh .stride) f) x 0 h ∙ getD-drop (y * sh .stride) f x 0
 
 -- ---- lines without a slope
 

@@ -1,15 +1,16 @@
--- A frame copied, and opened where it stands by passes over its rows (crate rows): that is the opened source, painted.
---   copied-pixel       windows of one pixel copy a row
+-- A frame copied, and opened where it stands by passes over its rows (crate rows): that is the opened source, painted. The copy's rows may stand closer, or
+-- further apart, than those of the source.
+--   copied             windows of one pixel copy a row
+--   copied-opened      an opened pixel depends on the pixels alone: the copy's is the source's
 --   opened-steep, opened-shallow    the copy, opened
 -- Assumes nothing.
-use mathlib.Core.Path.{_≡_, refl, sym, ap, _∙_}
+use mathlib.Core.Path.{_≡_, refl, sym, ap, ap₂, _∙_}
 use mathlib.Core.Bool.{Bool, true, false}
-use mathlib.Core.List.{List}
+use mathlib.Core.List.{List, [], _∷_, map, List·Memᴰ, List·Memᴰ·head, List·Memᴰ·tail}
 use mathlib.Core.Logic.{⊎-elim}
-use Prim.Native.Nat.{ℕ, _+_, _-_, _*_, _≤_, _<_}
+use Prim.Native.Nat.{ℕ, _+_, _-_, _≤_, _<_}
 use native.Mathlib.Omega.{arith}
-use lib.ListN.{length, getD, take, drop}
-use lib.Seq.{getD-take, getD-drop}
+use lib.ListN.{length, getD}
 use Rattle.lists.proofs.Cases.{less-or-not}
 use Rattle.lists.proofs.Tables.{table-same}
 use Rattle.line.specs.Windows.{opened}
@@ -18,23 +19,26 @@ use Rattle.line.proofs.Rims.{eroded-to-one, reopened-one, reopened-whole}
 use Rattle.frame.specs.declared.direction.Direction.{Direction}
 use Rattle.frame.specs.declared.shape.Shape.{Shape}
 use Rattle.frame.specs.Direction.{shallow}
-use Rattle.frame.specs.Shape.{isFrame, needed}
-use Rattle.frame.specs.Lines.{at, place}
+use Rattle.frame.specs.Shape.{shape, isFrame, needed}
+use Rattle.frame.specs.Lines.{Pixel, at, lineOf, pixels, place}
 use Rattle.frame.specs.Rows.{rowOf}
 use Rattle.frame.specs.Sweep as sweep
 use Rattle.frame.specs.Sweep.{sweepOf, shift, value, Accepted}
+use Rattle.frame.proofs.Pixels.{its-line}
 use Rattle.frame.proofs.Walks.{hits, hit-at, hit-below, hit-past, value-on, value-off}
 use Rattle.rows.specs.Rows.{spot as byteOf, laneAt, lane, OpensLines, OpensSteep, OpensShallow}
 use Rattle.rows.proofs.Lines.{lane-in, lane-left, lane-right}
 use Rattle.rows.proofs.Steeps.{steep-all}
 use Rattle.rows.proofs.Shallows.{shallow-all}
-use Rattle.strips.specs.Pixels.{openedPixel, Painted}
+use Rattle.strips.specs.Pixels as painted
+use Rattle.strips.specs.Pixels.{indexIn, openedPixel, Painted}
 use Rattle.strips.specs.Strips as strips
 use Rattle.strips.specs.Strips.{whole}
 use Rattle.strips.proofs.Bridge.{spot-of, spot-cell, opened-spot}
-use Rattle.opening.proofs.Along.{row-is, row-length}
+use Rattle.strips.proofs.Paintings.{painted-as, painted-again}
+use Rattle.opening.proofs.Along.{row-length, row-pixel}
 
-pub copied-pixel : (f : List ℕ) (sh : Shape) (x y : ℕ) → isFrame sh ≡ true → needed sh ≤ length f → x < sh .width → y < sh .height
+copied-pixel : (f : List ℕ) (sh : Shape) (x y : ℕ) → isFrame sh ≡ true → needed sh ≤ length f → x < sh .width → y < sh .height
     → getD (opened (rowOf f sh y) 1) x 0 ≡ getD f (place sh (at x y)) 0
 copied-pixel f sh x y ok fits h l =
     let row = rowOf f sh y in
@@ -43,9 +47,7 @@ copied-pixel f sh x y ok fits h l =
     ∙ sym (reopened-whole row 1 x (omega arith))
     ∙ reopened-one row 1 x inside
     ∙ eroded-to-one row x inside
-    ∙ ap (λ (r : List ℕ). getD r x 0) (row-is f sh y ok fits l)
-    ∙ getD-take (sh .width) (drop (y * sh .stride) f) x 0 h
-    ∙ getD-drop (y * sh .stride) f x 0
+    ∙ row-pixel f sh y ok fits l x h
 
 -- the pixel that stands at major coordinate i and minor coordinate k
 record PixelAt (sh : Shape) (d : Direction) (i k : ℕ) : Type 0 where
@@ -64,51 +66,70 @@ module _ (sh : Shape) (d : Direction) where
       go true e = record { x = i; y = k; wide = rw e at h; high = rw e at n; is = rw e (omega arith) }
       go false e = record { x = k; y = i; wide = rw e at n; high = rw e at h; is = rw e (omega arith) }
 
-  module _ (ok : Accepted sh d) (f : List ℕ) {g g₁ : List ℕ} (copied : Painted sh (λ (x y : ℕ). getD f (place sh (at x y)) 0) g g₁) where
-    copied-line : (u : ℕ) → lane (shift (sweepOf sh d)) (byteOf (sweepOf sh d)) (sweepOf sh d .minors) (sweepOf sh d .majors) g₁ u ≡ whole (sweepOf sh d) f u
+  module _ (ok : Accepted sh d) where
+    lane-is : (g : List ℕ) (u : ℕ) → lane (shift (sweepOf sh d)) (byteOf (sweepOf sh d)) (sweepOf sh d .minors) (sweepOf sh d .majors) g u ≡ whole (sweepOf sh d) g u
     unfolding sweep.cell
-    copied-line u =
+    lane-is g u =
         let s = sweepOf sh d in
-        table-same (laneAt (shift s) (byteOf s) (s .minors) g₁ u) (value s f u) (s .majors)
+        table-same (laneAt (shift s) (byteOf s) (s .minors) g u) (value s g u) (s .majors)
         (λ j h.
         ⊎-elim
-        (λ left. lane-left (shift s) (byteOf s) (s .minors) g₁ u j left ∙ sym (value-off s f u j (hit-below s u j left)))
+        (λ left. lane-left (shift s) (byteOf s) (s .minors) g u j left ∙ sym (value-off s g u j (hit-below s u j left)))
         (λ from.
         ⊎-elim
-        (λ in′.
-        let p = pixel-at j (u - shift s j) h (omega arith) in
-        lane-in (shift s) (byteOf s) (s .minors) g₁ u j from in′
-        ∙ ap (λ (x : ℕ). getD g₁ x 0) (p .is)
-        ∙ copied .pixels (p .x) (p .y) (p .wide) (p .high)
-        ∙ sym (ap (λ (x : ℕ). getD f x 0) (p .is))
-        ∙ sym (value-on s f u j (hit-at s u j from in′)))
-        (λ past. lane-right (shift s) (byteOf s) (s .minors) g₁ u j from past ∙ sym (value-off s f u j (hit-past s u j past)))
+        (λ in′. lane-in (shift s) (byteOf s) (s .minors) g u j from in′ ∙ sym (value-on s g u j (hit-at s u j from in′)))
+        (λ past. lane-right (shift s) (byteOf s) (s .minors) g u j from past ∙ sym (value-off s g u j (hit-past s u j past)))
         (less-or-not u (shift s j + s .minors)))
         (less-or-not u (shift s j)))
 
-    opened-in-place : {g₂ : List ℕ} (L : ℕ) → 1 ≤ L → OpensLines (sweepOf sh d) L g₁ g₂ → Painted sh (openedPixel f sh d L) g g₂
+    opened-in-place : {g g′ : List ℕ} (L : ℕ) → 1 ≤ L → OpensLines (sweepOf sh d) L g g′ → Painted sh (openedPixel g sh d L) g g′
     unfolding sweep.cell strips.openedOn
-    opened-in-place {g₂} L some o =
+    opened-in-place {g} {g′} L some o =
         record {
-          same = o .same ∙ copied .same;
+          same = o .same;
           pixels = λ x y h l.
               let s = sweepOf sh d in
               let p = spot-of sh d ok x y h l in
               let on = hits s (p .u) (p .i) (p .on) in
               let back : p .u - shift s (p .i) + shift s (p .i) ≡ p .u = omega arith in
-              sym (ap (λ (k : ℕ). getD g₂ k 0) (spot-cell p))
+              sym (ap (λ (k : ℕ). getD g′ k 0) (spot-cell p))
               ∙ o .within (p .i) (p .u - shift s (p .i)) (p .below) (omega arith)
-              ∙ ap (λ (v : ℕ). getD (opened (lane (shift s) (byteOf s) (s .minors) (s .majors) g₁ v) L) (p .i) 0) back
-              ∙ ap (λ (t : List ℕ). getD (opened t L) (p .i) 0) (copied-line (p .u))
-              ∙ sym (opened-spot sh d ok f L some p);
-          gaps = λ k none.
-              o .other k (λ i j h n e. let p = pixel-at i j h n in none (p .x) (p .y) (p .wide) (p .high) (e ∙ p .is))
-              ∙ copied .gaps k none;
+              ∙ ap (λ (v : ℕ). getD (opened (lane (shift s) (byteOf s) (s .minors) (s .majors) g v) L) (p .i) 0) back
+              ∙ ap (λ (t : List ℕ). getD (opened t L) (p .i) 0) (lane-is g (p .u))
+              ∙ sym (opened-spot sh d ok g L some p);
+          gaps = λ k none. o .other k (λ i j h n e. let p = pixel-at i j h n in none (p .x) (p .y) (p .wide) (p .high) (e ∙ p .is));
         }
 
-    pub opened-steep : {g₂ : List ℕ} (L : ℕ) → 1 ≤ L → shallow d ≡ false → needed sh ≤ length g → OpensSteep sh d L g₁ g₂ → Painted sh (openedPixel f sh d L) g g₂
-    opened-steep L some steep room o = opened-in-place L some (o .done (steep-all ok steep L g₁ some (omega (arith, copied .same))))
+-- ---- the copy, whose rows stand `stride` apart
 
-    pub opened-shallow : {g₂ m m′ : List ℕ} (L : ℕ) → 1 ≤ L → shallow d ≡ true → needed sh ≤ length g → sh .width ≤ length m → OpensShallow sh d L g₁ g₂ m m′
-        → Painted sh (openedPixel f sh d L) g g₂
-    opened-shallow {g₂} {m} L some flat room marks o = opened-in-place L some (o .done (shallow-all ok flat L g₁ (length m) some (omega (arith, copied .same)) marks))
+map-same : (a b : Pixel → ℕ) (cs : List Pixel) → ((c : Pixel) → List·Memᴰ c cs → a c ≡ b c) → map a cs ≡ map b cs
+map-same a b [] e = refl
+map-same a b (c ∷ cs) e = ap₂ (λ (n : ℕ) (l : List ℕ). n ∷ l) (e c (List·Memᴰ·head refl)) (map-same a b cs (λ q m. e q (List·Memᴰ·tail m)))
+
+module _ (f : List ℕ) (sh : Shape) (d : Direction) (stride : ℕ) (frame : isFrame sh ≡ true) (fits : needed sh ≤ length f)
+    (ok : Accepted (shape (sh .width) (sh .height) stride) d) {g g₁ : List ℕ}
+    (rows : Painted (shape (sh .width) (sh .height) stride) (λ (x y : ℕ). getD (opened (rowOf f sh y) 1) x 0) g g₁) where
+  copied : Painted (shape (sh .width) (sh .height) stride) (λ (x y : ℕ). getD f (place sh (at x y)) 0) g g₁
+  copied = painted-as (λ (x y : ℕ). getD f (place sh (at x y)) 0) rows (λ x y h l. copied-pixel f sh x y frame fits h l)
+
+  copied-opened : (L x y : ℕ) → openedPixel g₁ (shape (sh .width) (sh .height) stride) d L x y ≡ openedPixel f sh d L x y
+  unfolding painted.openedPixel
+  copied-opened L x y =
+      let line = pixels sh d (lineOf d x y) in
+      ap (λ (l : List ℕ). getD (opened l L) (indexIn (at x y) line) 0)
+      (map-same (λ (c : Pixel). getD g₁ (place (shape (sh .width) (sh .height) stride) c) 0) (λ (c : Pixel). getD f (place sh c) 0) line
+      (λ c m. let on = its-line sh d (lineOf d x y) (c .x) (c .y) m in copied .pixels (c .x) (c .y) (on .0) (on .1)))
+
+  copy-opened : {g₂ : List ℕ} (L : ℕ) → 1 ≤ L → OpensLines (sweepOf (shape (sh .width) (sh .height) stride) d) L g₁ g₂
+      → Painted (shape (sh .width) (sh .height) stride) (openedPixel f sh d L) g g₂
+  copy-opened L some o =
+      painted-as (openedPixel f sh d L) (painted-again copied (opened-in-place (shape (sh .width) (sh .height) stride) d ok L some o)) (λ x y h l. copied-opened L x y)
+
+  pub opened-steep : {g₂ : List ℕ} (L : ℕ) → 1 ≤ L → shallow d ≡ false → needed (shape (sh .width) (sh .height) stride) ≤ length g
+      → OpensSteep (shape (sh .width) (sh .height) stride) d L g₁ g₂ → Painted (shape (sh .width) (sh .height) stride) (openedPixel f sh d L) g g₂
+  opened-steep L some steep room o = copy-opened L some (o .done (steep-all ok steep L g₁ some (omega (arith, rows .same))))
+
+  pub opened-shallow : {g₂ m m′ : List ℕ} (L : ℕ) → 1 ≤ L → shallow d ≡ true → needed (shape (sh .width) (sh .height) stride) ≤ length g
+      → OpensShallow (shape (sh .width) (sh .height) stride) d L g₁ g₂ m m′ → sh .width ≤ length m → Painted (shape (sh .width) (sh .height) stride) (openedPixel f sh d L) g g₂
+  opened-shallow {g₂} {m} L some flat room o marks =
+      copy-opened L some (o .done (shallow-all ok flat L g₁ (length m) some (omega (arith, rows .same)) marks))

@@ -1,17 +1,20 @@
 // The direction frame: which of the sixteen numbered directions gives the highest opening.
+use crate::claims::claim_by;
 use crate::lent::lacking;
 use crate::rowwise::darken;
 use crate::rowwise::open_rows;
 use answer::Answer;
 use frame::Direction;
 use frame::Shape;
-use strips::claim_frame;
 use strips::strip_bytes;
 ghost use mathlib.Core.Path.{_≡_};
+ghost use mathlib.Core.Bool.{true};
+ghost use mathlib.Core.Logic.{_⊎_};
 ghost use Prim.Native.Nat.{_+_, _*_, _≤_};
 ghost use lib.ListN;
 ghost use Rattle.answer.specs.Rules.{answer};
 ghost use Rattle.frame.specs.Direction.{along};
+ghost use Rattle.frame.specs.Shape.{isFrame};
 ghost use Rattle.strips.specs.Pixels.{Painted};
 ghost use Rattle.opening.specs.Pixels.{directionAt};
 ghost use Rattle.strips.specs.Engine.{stripBytes};
@@ -29,6 +32,19 @@ fn refusal(shape: Shape, length: usize, size: usize, room: usize, spare: usize) 
     lacking(shape, length, size, room, spare, bytes)
 }
 
+// Where the best values stand in `spare` bytes of scratch: behind room for a second frame, where there is as much, so that each direction is opened in front
+// of them; else behind the strips.
+fn best_at(shape: Shape, spare: usize) -> usize
+    requires { ⌜ (isFrame shape ≡ true) × (stripBytes shape + shape .width * shape .height ≤ spare) ⌝ }
+    ensures { λ n. ⌜ (n + shape .width * shape .height ≤ spare) × ((shape .width * shape .height ≤ n) ⊎ (n ≡ stripBytes shape)) ⌝ }
+{
+    let pixels = shape.width * shape.height;
+    if spare < 2 * pixels {
+        return strip_bytes(shape);
+    }
+    pixels
+}
+
 // Direction 0 is along: it holds every pixel at first, with its rows as the best values, which stand in scratch behind its first `behind` bytes. The
 // other directions claim pixels in their order.
 fn directions_into(
@@ -39,7 +55,7 @@ fn directions_into(
     dst: &mut [u8],
     scratch: &mut [u8],
 )
-    requires { ⌜ Ready shape along length (lib.ListN.length (now src)) (lib.ListN.length (now dst)) (lib.ListN.length (now scratch)) × (behind ≡ stripBytes shape) × (behind + shape .width * shape .height ≤ lib.ListN.length (now scratch)) ⌝ }
+    requires { ⌜ Ready shape along length (lib.ListN.length (now src)) (lib.ListN.length (now dst)) (lib.ListN.length (now scratch)) × (behind + shape .width * shape .height ≤ lib.ListN.length (now scratch)) × ((shape .width * shape .height ≤ behind) ⊎ (behind ≡ stripBytes shape)) ⌝ }
     ensures { λ _. ⌜ Painted shape (directionAt (now (src .entry)) shape length) (now (dst .entry)) (now (dst .exit)) ⌝ }
 {
     let width = shape.width;
@@ -47,12 +63,13 @@ fn directions_into(
     open_rows(src, shape, length, width, &mut scratch[behind..]);
     let mut n = 1;
     while n < 16 {
-        claim_frame(
+        claim_by(
             src,
             n as u8,
             shape,
             Direction::numbered(n),
             length,
+            behind,
             dst,
             scratch,
         );
@@ -61,7 +78,7 @@ fn directions_into(
 }
 
 // The number of the direction, the lowest of them, that reaches the highest opening, at each pixel of the frame src, into the frame dst. Hands back 0.
-// Rules 1, 3, 5, 6, 7.
+// Rules 1, 3, 5, 6, 7. Where scratch has 2·width·height bytes, which rule 7 does not ask for, it is several times as fast.
 pub fn direction_frame(
     src: &[u8],
     shape: Shape,
@@ -75,6 +92,7 @@ pub fn direction_frame(
     if a.number != 0 {
         return a;
     }
-    directions_into(src, shape, length, strip_bytes(shape), dst, scratch);
+    let behind = best_at(shape, scratch.len());
+    directions_into(src, shape, length, behind, dst, scratch);
     a
 }

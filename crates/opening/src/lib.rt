@@ -1,4 +1,6 @@
 // Opening a frame of 8-bit pixels in one direction, the highest opening over the sixteen numbered directions, and which direction gave it.
+mod beside;
+mod claims;
 mod directions;
 mod frames;
 mod host;

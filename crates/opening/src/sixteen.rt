@@ -1,10 +1,10 @@
 // The highest opening over the sixteen numbered directions.
+use crate::beside::raise_by;
 use crate::lent::lacking;
 use crate::rowwise::open_rows;
 use answer::Answer;
 use frame::Direction;
 use frame::Shape;
-use strips::put_frame;
 use strips::strip_bytes;
 ghost use mathlib.Core.Path.{_≡_};
 ghost use lib.ListN;
@@ -34,21 +34,13 @@ fn highest_into(src: &[u8], shape: Shape, length: usize, dst: &mut [u8], scratch
     open_rows(src, shape, length, stride, dst);
     let mut n = 1;
     while n < 16 {
-        put_frame(
-            src,
-            true,
-            shape,
-            Direction::numbered(n),
-            length,
-            dst,
-            scratch,
-        );
+        raise_by(src, shape, Direction::numbered(n), length, dst, scratch);
         n += 1;
     }
 }
 
 // The greatest, at each pixel of the frame src, of its openings with windows of `length` pixels in the sixteen numbered directions, into the frame dst.
-// Hands back 0. Rules 1, 3, 5, 6, 7.
+// Hands back 0. Rules 1, 3, 5, 6, 7. Where scratch has width·height bytes, which rule 7 does not ask for, it is several times as fast.
 pub fn highest(
     src: &[u8],
     shape: Shape,

@@ -242,7 +242,7 @@ module _ (sh : Shape) (d : Direction) (ok : Accepted sh d) where
 
   pub frame-claimed : (f : List ℕ) (L number n : ℕ) → 1 ≤ L → {s b : Sweep} → s ≡ sweepFor sh d → b ≡ sweepFor (packed sh) d → lines s ≤ n → {t t′ g g′ : List ℕ}
       → length t′ ≡ length t → Holders f s (b .major) (b .minor) L number n (drop (stripBytes sh) t) g g′
-      → Raised f s (b .major) (b .minor) L number n (drop (stripBytes sh) t) (drop (stripBytes sh) t′) → FrameClaimed f sh d L number t t′ g g′
+      → Raised f s (b .major) (b .minor) L number n (drop (stripBytes sh) t) (drop (stripBytes sh) t′) → FrameClaimed f sh d L number (stripBytes sh) t t′ g g′
   unfolding unpacked
   frame-claimed f L number n some {s} {b} e q all {t} {t′} {g} {g′} same p r =
       let mine = sweep-is ok e in

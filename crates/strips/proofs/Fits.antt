@@ -1,7 +1,7 @@
 -- What the calls' tests say.
 --   area-small                 a frame's pixels, counted, fit
 --   bytes-by                   what `strip_bytes` hands back for an accepted frame
---   fits-ready, ready-fits     the test of `put_frame`
+--   fits-ready, ready-fits     the test of `raise_frame`
 --   claim-fits, claim-misfits, unfit-claim    the test of `claim_frame`
 -- Assumes nothing.
 use mathlib.Core.Path.{_≡_}

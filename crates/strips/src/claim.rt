@@ -138,7 +138,7 @@ pub(crate) fn claim_strips(
     dst: &mut [u8],
 )
     requires { ⌜ Ready shape d length (lib.ListN.length (now src)) (lib.ListN.length (now dst)) (lib.ListN.length (now scratch)) × (behind ≡ stripBytes shape) × (behind + shape .width * shape .height ≤ lib.ListN.length (now scratch)) ⌝ }
-    ensures { λ _. ⌜ FrameClaimed (now (src .entry)) shape d length number (now (scratch .entry)) (now (scratch .exit)) (now (dst .entry)) (now (dst .exit)) ⌝ }
+    ensures { λ _. ⌜ FrameClaimed (now (src .entry)) shape d length number (stripBytes shape) (now (scratch .entry)) (now (scratch .exit)) (now (dst .entry)) (now (dst .exit)) ⌝ }
 {
     let s = sweep_of(shape, d);
     let width = shape.width;

@@ -1,12 +1,12 @@
 // The calls. Each tests what it needs, and changes nothing where it is not so; the frame calls of other crates have made sure of it by their rules.
 use crate::claim::claim_strips;
-use crate::stripwise::put_strips;
+use crate::stripwise::raise_strips;
 use frame::Direction;
 use frame::Shape;
 ghost use mathlib.Core.Path.{_≡_};
 ghost use mathlib.Core.Bool.{cond};
 ghost use Rattle.frame.specs.Shape.{isFrame};
-ghost use Rattle.strips.specs.Engine.{stripBytes, fits, PutsFrame, ClaimsFrame};
+ghost use Rattle.strips.specs.Engine.{stripBytes, fits, RaisesFrame, ClaimsFrame};
 
 // The bytes of scratch that the strips of a frame need; 0 where rule 1 refuses it.
 pub fn strip_bytes(shape: Shape) -> usize
@@ -53,22 +53,21 @@ fn is_fitting(
     strip_bytes(shape) <= spare
 }
 
-// The frame src, opened in the direction d with windows of `length` pixels, comes into the frame dst; with `raise` only where it is brighter.
-pub fn put_frame(
+// The frame src, opened in the direction d with windows of `length` pixels, comes into the frame dst where it is brighter.
+pub fn raise_frame(
     src: &[u8],
-    raise: bool,
     shape: Shape,
     d: Direction,
     length: usize,
     dst: &mut [u8],
     scratch: &mut [u8],
 )
-    ensures { λ _. ⌜ PutsFrame (now (src .entry)) raise shape d length (now (dst .entry)) (now (dst .exit)) (now (scratch .entry)) (now (scratch .exit)) ⌝ }
+    ensures { λ _. ⌜ RaisesFrame (now (src .entry)) shape d length (now (dst .entry)) (now (dst .exit)) (now (scratch .entry)) (now (scratch .exit)) ⌝ }
 {
     if !is_fitting(shape, d, length, src.len(), dst.len(), scratch.len()) {
         return;
     }
-    put_strips(src, raise, shape, d, length, dst, scratch);
+    raise_strips(src, shape, d, length, dst, scratch);
 }
 
 // Where the frame src, opened in the direction d, is above the best values so far, it takes their place, and the frame dst gets the direction's number.

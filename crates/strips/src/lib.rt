@@ -9,5 +9,5 @@ mod stripwise;
 mod walk;
 
 pub use engine::claim_frame;
-pub use engine::put_frame;
+pub use engine::raise_frame;
 pub use engine::strip_bytes;

@@ -10,12 +10,11 @@ use crate::walk::shift_at;
 use crate::walk::start;
 use frame::Sweep;
 ghost use mathlib.Core.Path.{_≡_};
-ghost use Prim.Native.Nat.{ℕ, _+_, _-_, _*_, _≤_, _<_};
+ghost use Prim.Native.Nat.{ℕ, _+_, _-_, _*_, _≤_, _<_, max};
 ghost use lib.ListN;
 ghost use lib.ListN.{getD};
 ghost use Rattle.frame.specs.Sweep.{Sane, Reach, Apart};
 ghost use Rattle.frame.specs.Span.{Spans};
-ghost use Rattle.strips.specs.Engine.{mixed};
 ghost use Rattle.strips.specs.Strips.{valueAt, Laid, StripOpened, Placed, block, bufferAt};
 
 // The lines from u on, at the `count` major coordinates from `from` on: byte 8·k + j of buf is line u + j at coordinate from + k, 0 where it has no
@@ -58,10 +57,9 @@ pub(crate) fn open_strip(
     line::open_lanes(buf, 8, count, length);
 }
 
-// What a coordinate's pixels in dst become: x, or with `raise` the brighter of x and what stands there.
-fn mixed_with(
+// What a coordinate's pixels in dst become: the brighter of x and what stands there.
+fn raised(
     dst: &[u8],
-    raise: bool,
     minors: usize,
     minor: usize,
     base: usize,
@@ -70,27 +68,16 @@ fn mixed_with(
     x: [u8; 8],
 ) -> [u8; 8]
     requires { ⌜ (base + (minors - 1) * minor < lib.ListN.length (now dst)) × (u ≤ 8191) ⌝ }
-    ensures { λ z. ⌜ ((j : ℕ) → j < 8 → getD z j 0 ≡ mixed raise (valueAt (now (dst .entry)) minors minor base t (u + j)) (getD x j 0)) ⌝ }
+    ensures { λ z. ⌜ ((j : ℕ) → j < 8 → getD z j 0 ≡ max (valueAt (now (dst .entry)) minors minor base t (u + j)) (getD x j 0)) ⌝ }
 {
-    if !raise {
-        return x;
-    }
     let old = row_of(dst, minors, minor, base, t, u);
     brighter_of(old, x)
 }
 
-// The lines' pixels in dst become what buf has for them, or with `raise` the brighter of that and what stands there.
-pub(crate) fn put_strip(
-    buf: &[u8],
-    raise: bool,
-    s: Sweep,
-    u: usize,
-    from: usize,
-    count: usize,
-    dst: &mut [u8],
-)
+// The lines' pixels in dst become the brighter of what buf has for them and what stands there.
+pub(crate) fn raise_strip(buf: &[u8], s: Sweep, u: usize, from: usize, count: usize, dst: &mut [u8])
     requires { ⌜ Sane s × Apart s × Reach s (lib.ListN.length (now dst)) × (from + count ≤ s .majors) × (u ≤ 8191) × (8 * count ≤ lib.ListN.length (now buf)) ⌝ }
-    ensures { λ _. ⌜ Placed s (block u from count) (λ (v i old : ℕ). mixed raise old (bufferAt (now (buf .entry)) u from v i)) (now (dst .entry)) (now (dst .exit)) ⌝ }
+    ensures { λ _. ⌜ Placed s (block u from count) (λ (v i old : ℕ). max old (bufferAt (now (buf .entry)) u from v i)) (now (dst .entry)) (now (dst .exit)) ⌝ }
 {
     let run = s.run;
     let rise = s.rise;
@@ -102,7 +89,7 @@ pub(crate) fn put_strip(
         let t = shift_at(s.falling, s.top, steps);
         let base = (from + k) * s.major;
         let x = eight(buf, 8 * k);
-        let z = mixed_with(dst, raise, s.minors, s.minor, base, t, u, x);
+        let z = raised(dst, s.minors, s.minor, base, t, u, x);
         put_row(dst, s.minors, s.minor, base, t, u, z);
         let v = advance(run, rise, steps, rest);
         steps = v.steps;

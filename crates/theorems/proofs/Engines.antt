@@ -3,7 +3,7 @@
 --   open-lanes-once                                              lines opened where they stand
 --   darken-once, brighten-once, darken-bent-once, brighten-bent-once, blacken-once, blacken-bent-once, copy-once    the passes over bytes
 --   open-steep-once, open-shallow-once                           a frame opened where it stands
---   put-frame-once, claim-frame-once                             a frame opened into another, by strips
+--   raise-frame-once, claim-frame-once                           a frame opened into another, by strips
 -- Marks and strips in scratch are the exception, as scratch is elsewhere.
 -- Assumes nothing.
 use mathlib.Core.Path.{_≡_, refl, sym, ap, subst, _∙_}
@@ -32,7 +32,7 @@ use Rattle.frame.specs.Sweep as sweep
 use Rattle.frame.specs.Sweep.{sweepOf}
 use Rattle.frame.proofs.ByLines.{frames-same}
 use Rattle.rows.specs.Rows.{spot, PixelsAre, opensSteep, OpensSteep, opensShallow, OpensShallow}
-use Rattle.strips.specs.Engine.{stripBytes, fits, claimFits, PutsFrame, ClaimsFrame}
+use Rattle.strips.specs.Engine.{stripBytes, fits, claimFits, RaisesFrame, ClaimsFrame}
 use Rattle.strips.proofs.Fits.{fits-ready}
 use Rattle.strips.proofs.Claims.{packed-frame}
 use Rattle.strips.proofs.Paintings.{painted-once}
@@ -145,9 +145,9 @@ open-shallow-once {sh} {d} {L} {b} {b₁} {b₂} {m} p q = go (opensShallow sh d
 
 -- ---- a frame into another
 
-pub put-frame-once : {f : List ℕ} {raise : Bool} {sh : Shape} {d : Direction} {L : ℕ} {g g₁ g₂ t t₁ t₂ : List ℕ} → PutsFrame f raise sh d L g g₁ t t₁
-    → PutsFrame f raise sh d L g g₂ t t₂ → g₁ ≡ g₂
-put-frame-once {f} {raise} {sh} {d} {L} {g} {g₁} {g₂} {t} p q = go (fits sh d L (length f) (length g) (length t)) refl
+pub raise-frame-once : {f : List ℕ} {sh : Shape} {d : Direction} {L : ℕ} {g g₁ g₂ t t₁ t₂ : List ℕ} → RaisesFrame f sh d L g g₁ t t₁
+    → RaisesFrame f sh d L g g₂ t t₂ → g₁ ≡ g₂
+raise-frame-once {f} {sh} {d} {L} {g} {g₁} {g₂} {t} p q = go (fits sh d L (length f) (length g) (length t)) refl
   where
     go : (b : Bool) → fits sh d L (length f) (length g) (length t) ≡ b → g₁ ≡ g₂
     go true e = painted-once (fits-ready sh d L (length f) (length g) (length t) e .ok .frame) (p .fitted e) (q .fitted e)

@@ -1,8 +1,6 @@
 -- A done answer says that all fits; a refused one that nothing was touched.
-use mathlib.Core.Path.{refl, _∙_}
-use native.Mathlib.Omega.{arith}
+use mathlib.Core.Path.{refl}
 use lib.ListN.{length as size}
-use Rattle.strips.proofs.Fits.{bytes-by}
 use Rattle.opening.proofs.Calls.{directions-ready}
 use borrow.Author.Needs.{needs}
 use Rattle.opening.proofs.directions.direction_frame.Statement.{statement}
@@ -19,16 +17,19 @@ returns c = record {
   scratch-length = refl;
 }
 
-strip-bytes-requires : tie.Need-strip-bytes-requires
-strip-bytes-requires c κs = search needs
+best-at-requires : tie.Need-best-at-requires
+best-at-requires c κs =
+    let a = c .before .before .before .before .before .before .args in
+    let ready = directions-ready (a .shape) (a .length) (size (a .src .now)) (size (a .dst .now)) (size (a .scratch .now))
+    (c .before .before .refusal .ensures) (c .if1 .left) in
+    (ready .0 .ok .frame, ready .1)
 
 directions-into-requires : tie.Need-directions-into-requires
 directions-into-requires c κs =
     let a = c .before .before .before .before .before .before .before .before .before .args in
     let ready = directions-ready (a .shape) (a .length) (size (a .src .now)) (size (a .dst .now)) (size (a .scratch .now))
     (c .before .before .before .before .before .refusal .ensures) (c .before .before .before .if1 .left) in
-    let behind = c .before .before .strip-bytes .ensures ∙ bytes-by (a .shape) (ready .0 .ok .frame) in
-    (ready .0, behind, omega (arith, behind, ready .1))
+    (ready .0, c .before .before .best-at .ensures .0, c .before .before .best-at .ensures .1)
 
 same-length : tie.Need-same-length
 same-length c = search needs
@@ -50,7 +51,7 @@ direction-frame-spec =
     (tie.spec
     refusal-requires
     returns
-    strip-bytes-requires
+    best-at-requires
     directions-into-requires
     same-length
     same-length-2

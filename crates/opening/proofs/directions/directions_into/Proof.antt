@@ -9,10 +9,9 @@ use Rattle.frame.specs.declared.direction.Direction.{Direction}
 use Rattle.frame.specs.Shape.{needed}
 use Rattle.frame.proofs.Shapes.{framed}
 use Rattle.strips.specs.Pixels.{openedPixel, Painted}
-use Rattle.strips.specs.Engine.{stripBytes, claims, packed}
+use Rattle.strips.specs.Engine.{claims, packed}
 use Rattle.strips.proofs.Paintings.{painted-as, painted-again, painted-stays}
 use Rattle.strips.proofs.Claims.{packed-needed, tail-length, tail-same, best-begins}
-use Rattle.strips.proofs.Fits.{ready-fits, claim-fits}
 use Rattle.opening.specs.Pixels.{inDirection, firstGreatest}
 use Rattle.opening.proofs.Along.{along-opened}
 use Rattle.opening.proofs.Calls.{ready-numbered}
@@ -27,7 +26,7 @@ Inv-loop src shape length behind dst₀ scratch₀ width n₀ dst scratch n =
     × (n ≤ 16)
     × (size scratch ≡ size scratch₀)
     × Painted shape (λ (x y : ℕ). firstGreatest (inDirection src shape length x y) n) dst₀ dst
-    × Painted (packed shape) (λ (x y : ℕ). greatest (table (inDirection src shape length x y) n)) (drop (stripBytes shape) scratch₀) (drop (stripBytes shape) scratch)
+    × Painted (packed shape) (λ (x y : ℕ). greatest (table (inDirection src shape length x y) n)) (drop behind scratch₀) (drop behind scratch)
 
 abbrev μ-loop : tie.MeasureT-loop
 μ-loop src shape length behind dst₀ scratch₀ width n₀ dst scratch n = 16 - n
@@ -36,10 +35,10 @@ darken-requires : tie.Need-darken-requires Inv-loop μ-loop
 darken-requires c κs = (c .before .before .before .before .pre .0 .ok .frame, c .before .before .before .before .pre .0 .target)
 
 sub-open-rows : tie.Need-sub-open-rows Inv-loop μ-loop
-sub-open-rows c = omega (arith, c .before .before .before .before .before .before .before .pre .2)
+sub-open-rows c = omega (arith, c .before .before .before .before .before .before .before .pre .1)
 
 part-open-rows-start : tie.Need-part-open-rows-start Inv-loop μ-loop
-part-open-rows-start c = omega (arith, c .before .before .before .before .before .before .before .pre .2)
+part-open-rows-start c = omega (arith, c .before .before .before .before .before .before .before .pre .1)
 
 part-open-rows-end : tie.Need-part-open-rows-end Inv-loop μ-loop
 part-open-rows-end c = search needs
@@ -50,7 +49,7 @@ open-rows-requires c κs =
     let pre = c .before .before .before .before .before .before .before .before .pre in
     let frame = framed (a .shape) (pre .0 .ok .frame) in
     let room : needed (packed (a .shape)) ≤ size (take (size (a .scratch .now) - a .behind) (drop (a .behind) (a .scratch .now))) =
-    omega (arith, packed-needed (a .shape) (frame .high), tail-length (a .behind) (a .scratch .now), pre .2) in
+    omega (arith, packed-needed (a .shape) (frame .high), tail-length (a .behind) (a .scratch .now), pre .1) in
     (pre .0 .ok .frame, omega arith, pre .0 .some, pre .0 .source, room)
 
 loop-holds : tie.Need-loop-holds Inv-loop μ-loop
@@ -60,7 +59,7 @@ loop-holds c =
     let rows = c .before .before .open-rows in
     let v : ℕ → ℕ → ℕ → ℕ = inDirection (a .src .now) (a .shape) (a .length) in
     let best =
-    best-begins (a .behind) (stripBytes (a .shape)) (a .scratch .now) (rows .last .1 .1 .1 .1 .0) (omega (arith, pre .2)) (pre .1) (rows .ensures) in (
+    best-begins (a .behind) (a .behind) (a .scratch .now) (rows .last .1 .1 .1 .1 .0) (omega (arith, pre .1)) refl (rows .ensures) in (
       omega arith,
       omega arith,
       refl,
@@ -69,14 +68,24 @@ loop-holds c =
           (λ x y h l. sym (greatest-one (v x y) ∙ along-opened (a .src .now) (a .shape) _ (pre .0 .ok) refl (pre .0 .source) (a .length) x y (pre .0 .some) h l)),
     )
 
-cast-claim-frame : tie.Need-cast-claim-frame Inv-loop μ-loop
-cast-claim-frame c = omega (arith, c .loop-test .taken)
+cast-claim-by : tie.Need-cast-claim-by Inv-loop μ-loop
+cast-claim-by c = omega (arith, c .loop-test .taken)
 
 numbered-requires : tie.Need-numbered-requires Inv-loop μ-loop
 numbered-requires c κs = search needs
 
-claim-frame-requires : tie.Need-claim-frame-requires Inv-loop μ-loop
-claim-frame-requires c κs = search needs
+claim-by-requires : tie.Need-claim-by-requires Inv-loop μ-loop
+claim-by-requires c κs =
+    let a = c .before .before .before .before .before .before .before .before .before .before .before .before .before .before .before .before .args in
+    let pre = c .before .before .before .before .before .before .before .before .before .before .before .before .before .before .before .before .pre in
+    let loop = c .before .before .before .before .loop in
+    let rows = c .before .before .before .before .before .before .before .open-rows in
+    let dark = c .before .before .before .before .before .before .before .before .before .before .before .darken in
+    let fits = tail-same (a .behind) (a .scratch .now) (rows .last .1 .1 .1 .1 .0) (rows .kept .1 .1 .1 .1 .0) (omega (arith, pre .1)) in
+    let ready =
+    ready-numbered (a .shape) (a .length) _ _ _ (loop .n) (omega (arith, c .before .before .before .loop-test .taken)) (c .before .before .numbered .ensures)
+    (loop .inv .3 .same ∙ dark .kept .1 .0) (loop .inv .2 ∙ fits) (pre .0) in
+    (ready, omega (arith, pre .1, loop .inv .2, fits), pre .2)
 
 add-n : tie.Need-add-n Inv-loop μ-loop
 add-n c = omega (arith, c .before .before .before .before .before .before .before .before .loop-test .taken)
@@ -90,25 +99,13 @@ loop-again c =
     let loop = c .before .before .before .before .before .before .before .before .before .loop in
     let n = loop .n in
     let d = c .before .before .before .before .before .before .before .numbered .result in
-    let pre = c .before .before .before .before .before .before .before .before .before .before .before .before .before .before .before .before .before .before .before .before .before .pre in
-    let rows = c .before .before .before .before .before .before .before .before .before .before .before .before .open-rows in
-    let fits = tail-same (a .behind) (a .scratch .now) (rows .last .1 .1 .1 .1 .0) (rows .kept .1 .1 .1 .1 .0) (omega (arith, pre .2)) in
-    let ready =
-    ready-numbered (a .shape) (a .length) _ _ _ n (omega (arith, c .before .before .before .before .before .before .before .before .loop-test .taken))
-    (c .before .before .before .before .before .before .before .numbered .ensures)
-    (loop .inv .3 .same ∙ c .before .before .before .before .before .before .before .before .before .before .before .before .before .before .before .before .darken .kept .1 .0)
-    (loop .inv .2 ∙ fits) (pre .0) in
-    let claimed = c .before .before .before .before .claim-frame .ensures in
-    let claim =
-    claimed .fitted
-    (claim-fits (a .shape) d (a .length) (size (a .src .now)) (size (loop .dst)) (size (loop .scratch))
-    (ready-fits (a .shape) d (a .length) _ _ _ ready) (omega (arith, pre .1, pre .2, loop .inv .2, fits))) in
+    let claim = c .before .before .before .before .claim-by .ensures in
     let is = c .before .before .before .before .before .before .before .numbered .ensures in
     let v : ℕ → ℕ → ℕ → ℕ = inDirection (a .src .now) (a .shape) (a .length) in
     let new : Direction → ℕ → ℕ → ℕ = λ d x y. openedPixel (a .src .now) (a .shape) d (a .length) x y in (
       omega arith,
       omega (arith, c .before .before .before .before .before .before .before .before .loop-test .taken),
-      claimed .same ∙ loop .inv .2,
+      claim .same ∙ loop .inv .2,
       painted-as _ (painted-again (loop .inv .3) (claim .holders))
           (λ x y h l.
           ap₂ (λ (m k : ℕ). claims m n (new d x y) k) (loop .inv .4 .pixels x y h l) (loop .inv .3 .pixels x y h l)
@@ -129,7 +126,7 @@ same-length-2 c =
     let a = c .before .before .before .before .before .before .before .before .before .before .before .before .before .args in
     let rows = c .before .before .before .before .open-rows in
     c .before .loop .inv .2 ∙ tail-same (a .behind) (a .scratch .now) (rows .last .1 .1 .1 .1 .0) (rows .kept .1 .1 .1 .1 .0)
-    (omega (arith, c .before .before .before .before .before .before .before .before .before .before .before .before .before .pre .2))
+    (omega (arith, c .before .before .before .before .before .before .before .before .before .before .before .before .before .pre .1))
 
 returns : tie.Need-returns Inv-loop μ-loop
 returns c =
@@ -151,9 +148,9 @@ directions-into-spec =
     part-open-rows-end
     open-rows-requires
     loop-holds
-    cast-claim-frame
+    cast-claim-by
     numbered-requires
-    claim-frame-requires
+    claim-by-requires
     add-n
     loop-less
     loop-again

@@ -3,16 +3,14 @@ use mathlib.Core.Path.{_≡_, sym, ap, _∙_}
 use Prim.Native.Nat.{ℕ}
 use native.Mathlib.Omega.{arith}
 use lib.IntN.{natAbs}
-use lib.ListN.{getD}
 use mir.Syntax.{w64}
 use mir.Val.{toZ}
-use Rattle.frame.specs.Lines.{at, place}
 use Rattle.frame.proofs.Signs.{back}
 use Rattle.frame.proofs.Shapes.{framed}
 use Rattle.strips.specs.Pixels.{openedPixel}
 use Rattle.strips.proofs.Paintings.{painted-as}
 use Rattle.opening.proofs.Along.{along-opened}
-use Rattle.opening.proofs.Inplace.{copied-pixel, opened-steep, opened-shallow}
+use Rattle.opening.proofs.Inplace.{opened-steep, opened-shallow}
 use borrow.Author.Needs.{needs}
 use Rattle.opening.proofs.frames.opened_into.Statement.{statement}
 use Rattle.opening.proofs.frames.opened_into.Tie as tie
@@ -57,12 +55,10 @@ returns-2 c =
     let a = c .before .before .before .before .before .before .before .before .before .before .before .before .before .before .before .before .before .before .args in
     let pre = c .before .before .before .before .before .before .before .before .before .before .before .before .before .before .before .before .before .before .pre in
     let copy = c .before .before .before .before .before .before .before .before .before .before .before .open-rows2 .ensures in
-    let copied = painted-as (λ (x y : ℕ). getD (a .src .now) (place (a .shape) (at x y)) 0) copy
-    (λ x y h l. copied-pixel (a .src .now) (a .shape) x y (pre .ok .frame) (pre .source) h l) in
     let flat = sym (c .before .before .before .before .before .before .before .before .is-shallow .ensures)
     ∙ c .before .before .before .before .before .before .before .if2 .taken in
-    opened-shallow (a .shape) (a .d) (pre .ok) (a .src .now) copied (a .length) (pre .some) flat (pre .target) (omega (arith, pre .scratch))
-    (c .before .before .before .before .open-shallow .ensures)
+    opened-shallow (a .src .now) (a .shape) (a .d) (a .shape .stride) (pre .ok .frame) (pre .source) (pre .ok) copy (a .length) (pre .some) flat (pre .target)
+    (c .before .before .before .before .open-shallow .ensures) (omega (arith, pre .scratch))
 
 open-steep-requires : tie.Need-open-steep-requires
 open-steep-requires c κs = search needs
@@ -75,10 +71,9 @@ returns-3 c =
     let a = c .before .before .before .before .before .before .before .before .before .before .before .before .before .before .before .args in
     let pre = c .before .before .before .before .before .before .before .before .before .before .before .before .before .before .before .pre in
     let copy = c .before .before .before .before .before .before .before .before .open-rows2 .ensures in
-    let copied = painted-as (λ (x y : ℕ). getD (a .src .now) (place (a .shape) (at x y)) 0) copy
-    (λ x y h l. copied-pixel (a .src .now) (a .shape) x y (pre .ok .frame) (pre .source) h l) in
     let steep = sym (c .before .before .before .before .before .is-shallow .ensures) ∙ c .before .before .before .before .if2 .left in
-    opened-steep (a .shape) (a .d) (pre .ok) (a .src .now) copied (a .length) (pre .some) steep (pre .target) (c .before .before .open-steep .ensures)
+    opened-steep (a .src .now) (a .shape) (a .d) (a .shape .stride) (pre .ok .frame) (pre .source) (pre .ok) copy (a .length) (pre .some) steep (pre .target)
+    (c .before .before .open-steep .ensures)
 
 pub opened-into-spec : {M : Type 1} → statement M
 opened-into-spec =

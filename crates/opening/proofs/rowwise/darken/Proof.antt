@@ -1,14 +1,12 @@
 -- The first y rows are 0.
-use mathlib.Core.Path.{_≡_, _∙_}
-use Prim.Native.Nat.{ℕ, _+_, _-_, _*_, _≤_}
+use mathlib.Core.Path.{_∙_}
+use Prim.Native.Nat.{ℕ, _-_, _*_, _≤_}
 use native.Mathlib.Omega.{arith}
-use lib.ListN.{length as size, drop, length-drop}
-use lib.Seq.{length-take-le}
 use Rattle.frame.specs.Shape.{shape}
 use Rattle.frame.proofs.Shapes.{framed}
 use Rattle.strips.specs.Pixels.{Painted}
 use Rattle.strips.proofs.Eights.{steps-le}
-use Rattle.opening.proofs.Bands.{rows-none, rows-put, rows-end}
+use Rattle.opening.proofs.Bands.{part-length, rows-none, rows-put, rows-end}
 use borrow.Author.Needs.{needs}
 use Rattle.opening.proofs.rowwise.darken.Statement.{statement}
 use Rattle.opening.proofs.rowwise.darken.Tie as tie
@@ -61,12 +59,11 @@ loop-again c =
     let from = loop .y * a .frame .stride in
     let taken = c .before .before .before .before .before .if1 .taken in
     let fits = steps-le (loop .y) (a .frame .height - 1) (a .frame .stride) (omega (arith, taken)) in
-    let room : from + a .frame .width - from ≤ size (drop from (loop .dst)) = omega (arith, length-drop from (loop .dst), loop .inv .1 .same, fits, pre .1) in
-    let part = length-take-le (from + a .frame .width - from) (drop from (loop .dst)) room in (
+    let part = part-length from (a .frame .width) (loop .dst) (omega (arith, loop .inv .1 .same, fits, pre .1)) in (
       omega (arith, taken),
-      rows-put (a .frame .width) (a .frame .stride) (λ (x n : ℕ). 0) (c .before .before .darken-row .last .0) (loop .y) _
+      rows-put (a .frame .width) (a .frame .stride) (λ (x n : ℕ). 0) (c .before .before .darken-row .last .0) (loop .y)
           (framed (a .frame) (pre .0) .past) (omega (arith, loop .inv .1 .same, fits, pre .1)) (loop .inv .1)
-          (omega arith) (c .before .before .darken-row .kept .0 ∙ part) (λ x h. c .before .before .darken-row .ensures x),
+          (c .before .before .darken-row .kept .0 ∙ part) (λ x h. c .before .before .darken-row .ensures x),
     )
 
 same-length : tie.Need-same-length Inv-loop μ-loop

@@ -1,17 +1,16 @@
 -- The first y rows are painted.
 use mathlib.Core.Path.{_≡_, sym, ap, _∙_}
 use mathlib.Core.List.{List}
-use Prim.Native.Nat.{ℕ, _+_, _-_, _*_, _≤_}
+use Prim.Native.Nat.{ℕ, _-_, _*_, _≤_}
 use native.Mathlib.Omega.{arith}
-use lib.ListN.{length as size, getD, take, drop, length-drop}
-use lib.Seq.{length-take-le}
+use lib.ListN.{length as size, getD}
 use Rattle.line.specs.Windows.{opened}
 use Rattle.frame.specs.Shape.{shape}
 use Rattle.frame.specs.Rows.{rowOf}
 use Rattle.strips.specs.Pixels.{Painted}
 use Rattle.opening.proofs.Along.{row-length}
 use Rattle.strips.proofs.Eights.{steps-le}
-use Rattle.opening.proofs.Bands.{rows-none, rows-put, rows-end}
+use Rattle.opening.proofs.Bands.{part-length, rows-none, rows-put, rows-end}
 use borrow.Author.Needs.{needs}
 use Rattle.opening.proofs.rowwise.open_rows.Statement.{statement}
 use Rattle.opening.proofs.rowwise.open_rows.Tie as tie
@@ -61,9 +60,8 @@ open-row-requires c κs =
     let long = row-length (a .src .now) (a .frame) (loop .y) (pre .0) (pre .3) (omega (arith, c .before .before .if1 .taken)) in
     let fits = steps-le (loop .y) (a .frame .height - 1) (a .stride) (omega (arith, c .before .before .if1 .taken)) in
     let row : size (c .before .row .result .now) ≡ a .frame .width = ap size (c .before .row .ensures) ∙ long in
-    let room : from + a .frame .width - from ≤ size (drop from (loop .dst)) = omega (arith, length-drop from (loop .dst), loop .inv .1 .same, fits, pre .4) in
-    let part = length-take-le (from + a .frame .width - from) (drop from (loop .dst)) room in
-    (pre .2, part ∙ omega (arith, row))
+    let part = part-length from (a .frame .width) (loop .dst) (omega (arith, loop .inv .1 .same, fits, pre .4)) in
+    (pre .2, part ∙ sym row)
 
 add-y : tie.Need-add-y Inv-loop μ-loop
 add-y c = search needs
@@ -79,12 +77,11 @@ loop-again c =
     let from = loop .y * a .stride in
     let taken = c .before .before .before .before .before .if1 .taken in
     let fits = steps-le (loop .y) (a .frame .height - 1) (a .stride) (omega (arith, taken)) in
-    let room : from + a .frame .width - from ≤ size (drop from (loop .dst)) = omega (arith, length-drop from (loop .dst), loop .inv .1 .same, fits, pre .4) in
-    let part = length-take-le (from + a .frame .width - from) (drop from (loop .dst)) room in
+    let part = part-length from (a .frame .width) (loop .dst) (omega (arith, loop .inv .1 .same, fits, pre .4)) in
     let vals = c .before .before .open-row .ensures ∙ ap (λ (l : List ℕ). opened l (a .length)) (c .before .before .before .before .row .ensures) in (
       omega (arith, taken),
-      rows-put (a .frame .width) (a .stride) _ (c .before .before .open-row .last .1 .1 .0) (loop .y) _ (pre .1)
-          (omega (arith, loop .inv .1 .same, fits, pre .4)) (loop .inv .1) (omega arith)
+      rows-put (a .frame .width) (a .stride) _ (c .before .before .open-row .last .1 .1 .0) (loop .y) (pre .1)
+          (omega (arith, loop .inv .1 .same, fits, pre .4)) (loop .inv .1)
           (c .before .before .open-row .kept .1 .1 .0 ∙ part) (λ x h. ap (λ (l : List ℕ). getD l x 0) vals),
     )
 

@@ -9,7 +9,6 @@ use Rattle.frame.specs.declared.direction.Direction.{Direction}
 use Rattle.frame.proofs.Shapes.{framed}
 use Rattle.strips.specs.Pixels.{openedPixel, Painted}
 use Rattle.strips.proofs.Paintings.{painted-as, painted-again, painted-stays}
-use Rattle.strips.proofs.Fits.{ready-fits}
 use Rattle.opening.specs.Pixels.{inDirection}
 use Rattle.opening.proofs.Along.{along-opened}
 use Rattle.opening.proofs.Calls.{ready-numbered}
@@ -50,8 +49,14 @@ loop-holds c =
 numbered-requires : tie.Need-numbered-requires Inv-loop μ-loop
 numbered-requires c κs = search needs
 
-put-frame-requires : tie.Need-put-frame-requires Inv-loop μ-loop
-put-frame-requires c κs = search needs
+raise-by-requires : tie.Need-raise-by-requires Inv-loop μ-loop
+raise-by-requires c κs =
+    let a = c .before .before .before .before .before .before .before .before .before .before .before .before .args in
+    let loop = c .before .before .before .before .loop in
+    let rows = c .before .before .before .before .before .before .before .open-rows in
+    ready-numbered (a .shape) (a .length) _ _ _ (loop .n) (omega (arith, c .before .before .before .loop-test .taken)) (c .before .before .numbered .ensures)
+    (loop .inv .3 .same ∙ rows .kept .1 .1 .1 .1 .0) (loop .inv .2)
+    (c .before .before .before .before .before .before .before .before .before .before .before .before .pre)
 
 add-n : tie.Need-add-n Inv-loop μ-loop
 add-n c = omega (arith, c .before .before .before .before .before .before .before .before .loop-test .taken)
@@ -63,21 +68,12 @@ loop-again : tie.Need-loop-again Inv-loop μ-loop
 loop-again c =
     let a = c .before .before .before .before .before .before .before .before .before .before .before .before .before .before .before .before .before .args in
     let loop = c .before .before .before .before .before .before .before .before .before .loop in
-    let put = c .before .before .before .before .put-frame .ensures in
-    let rows = c .before .before .before .before .before .before .before .before .before .before .before .before .open-rows in
-    let ready =
-    ready-numbered (a .shape) (a .length) _ _ _ (loop .n)
-    (omega (arith, c .before .before .before .before .before .before .before .before .loop-test .taken))
-    (c .before .before .before .before .before .before .before .numbered .ensures)
-    (loop .inv .3 .same ∙ rows .kept .1 .1 .1 .1 .0) (loop .inv .2)
-    (c .before .before .before .before .before .before .before .before .before .before .before .before .before .before .before .before .before .pre)
-    in
-    let raised = put .fitted (ready-fits (a .shape) _ (a .length) _ _ _ ready) in
+    let raised = c .before .before .before .before .raise-by in
     let number = c .before .before .before .before .before .before .before .numbered .ensures in (
       omega arith,
       omega (arith, c .before .before .before .before .before .before .before .before .loop-test .taken),
-      put .same ∙ loop .inv .2,
-      painted-as _ (painted-again (loop .inv .3) raised)
+      raised .kept .1 .1 .1 .1 .1 .0 ∙ loop .inv .2,
+      painted-as _ (painted-again (loop .inv .3) (raised .ensures))
           (λ x y h l.
           let v = inDirection (a .src .now) (a .shape) (a .length) x y in
           ap (λ (m : ℕ). max m (openedPixel (a .src .now) (a .shape) (c .before .before .before .before .before .before .before .numbered .result)
@@ -109,7 +105,7 @@ highest-into-spec =
     open-rows-requires
     loop-holds
     numbered-requires
-    put-frame-requires
+    raise-by-requires
     add-n
     loop-less
     loop-again

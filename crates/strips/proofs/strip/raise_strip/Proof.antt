@@ -1,26 +1,25 @@
--- The pixels at the first k major coordinates are set, and the walk stands at the next.
+-- The pixels at the first k major coordinates are raised, and the walk stands at the next.
 use mathlib.Core.Path.{ap₂, _∙_}
-use Prim.Native.Nat.{ℕ, _+_, _-_, _≤_}
+use Prim.Native.Nat.{ℕ, _+_, _-_, _≤_, max}
 use native.Mathlib.Omega.{arith}
 use lib.ListN.{length}
 use Rattle.frame.proofs.Shapes.{top-less}
-use Rattle.strips.specs.Engine.{mixed}
 use Rattle.strips.specs.Strips.{Stands, Placed, block, bufferAt}
 use Rattle.strips.proofs.Walks.{stands-top, stands-shift}
 use Rattle.strips.proofs.Places.{placed-row}
 use Rattle.strips.proofs.Strips.{walk-next, row-reach, value-cell, buffer-eight, block-none, block-more, block-end}
 use borrow.Author.Needs.{needs}
-use Rattle.strips.proofs.strip.put_strip.Statement.{statement}
-use Rattle.strips.proofs.strip.put_strip.Tie as tie
+use Rattle.strips.proofs.strip.raise_strip.Statement.{statement}
+use Rattle.strips.proofs.strip.raise_strip.Tie as tie
 
 abbrev Inv-loop : tie.InvT-loop
-Inv-loop buf raise s u from count dst₀ run rise steps₀ rest₀ k₀ dst steps rest k =
+Inv-loop buf s u from count dst₀ run rise steps₀ rest₀ k₀ dst steps rest k =
     (k ≤ count)
     × Stands (s .run) (s .rise) (from + k) steps rest
-    × Placed s (block u from k) (λ (v i old : ℕ). mixed raise old (bufferAt buf u from v i)) dst₀ dst
+    × Placed s (block u from k) (λ (v i old : ℕ). max old (bufferAt buf u from v i)) dst₀ dst
 
 abbrev μ-loop : tie.MeasureT-loop
-μ-loop buf raise s u from count dst₀ run rise steps₀ rest₀ k₀ dst steps rest k = count - k
+μ-loop buf s u from count dst₀ run rise steps₀ rest₀ k₀ dst steps rest k = count - k
 
 start-requires : tie.Need-start-requires Inv-loop μ-loop
 start-requires c κs = search needs
@@ -48,8 +47,8 @@ mul-eight c = search needs
 eight-requires : tie.Need-eight-requires Inv-loop μ-loop
 eight-requires c κs = search needs
 
-mixed-with-requires : tie.Need-mixed-with-requires Inv-loop μ-loop
-mixed-with-requires c κs =
+raised-requires : tie.Need-raised-requires Inv-loop μ-loop
+raised-requires c κs =
     let a = c .before .before .before .before .before .before .before .before .before .args in
     let pre = c .before .before .before .before .before .before .before .before .before .pre in
     let loop = c .before .before .before .before .before .loop in
@@ -92,12 +91,12 @@ loop-again c =
     let shift = c .before .before .before .before .before .before .before .before .before .shift-at .ensures ∙ stands-shift (a .s) (pre .0)
     (a .from + loop .k) (omega (arith, taken, pre)) walk in
     let row =
-    placed-row (a .s) (a .u) (a .from + loop .k) _ _ _ _ (λ (v i old : ℕ). mixed (a .raise) old (bufferAt (a .buf .now) (a .u) (a .from) v i)) shift
+    placed-row (a .s) (a .u) (a .from + loop .k) _ _ _ _ (λ (v i old : ℕ). max old (bufferAt (a .buf .now) (a .u) (a .from) v i)) shift
     (omega (arith, taken, pre))
     (c .before .before .before .put-row .ensures)
     (λ j h z.
-    c .before .before .before .before .before .mixed-with .ensures j h
-    ∙ ap₂ (mixed (a .raise))
+    c .before .before .before .before .before .raised .ensures j h
+    ∙ ap₂ max
     (value-cell (a .s) (loop .dst) (a .u + j) (a .from + loop .k) _ shift z)
     (buffer-eight (a .buf .now) _ (a .u) (a .from) (loop .k) (c .before .before .before .before .before .before .before .eight .ensures) j h)) in
     (omega (arith, taken), walk-next (a .from) (loop .k) (c .advance .ensures) walk, block-more (a .u) (a .from) (loop .k) (pre .1) (loop .inv .2) row)
@@ -108,8 +107,8 @@ same-length c = c .before .loop .inv .2 .same
 returns : tie.Need-returns Inv-loop μ-loop
 returns c = block-end (c .before .before .before .before .before .args .count) (c .before .loop .inv .2) (omega arith)
 
-pub put-strip-spec : {M : Type 1} → statement M
-put-strip-spec =
+pub raise-strip-spec : {M : Type 1} → statement M
+raise-strip-spec =
     tie.close
     (tie.spec
     Inv-loop
@@ -121,7 +120,7 @@ put-strip-spec =
     mul-base
     mul-eight
     eight-requires
-    mixed-with-requires
+    raised-requires
     put-row-requires
     advance-requires
     add-k

@@ -1,28 +1,27 @@
--- The lines below u are set.
+-- The lines below u are raised.
 use mathlib.Core.Path.{_≡_, refl, sym, ap, _∙_, subst}
-use Prim.Native.Nat.{ℕ, _+_, _-_, _*_, _≤_}
+use Prim.Native.Nat.{ℕ, _+_, _-_, _*_, _≤_, max}
 use native.Mathlib.Omega.{arith}
 use lib.ListN.{length as size}
 use lib.Seq.{length-take-le, length-front}
 use Rattle.frame.specs.declared.sweep.Sweep.{Sweep}
 use Rattle.frame.specs.Sweep.{lines}
-use Rattle.strips.specs.Engine.{mixed}
 use Rattle.strips.specs.Strips.{openedOn, Placed, below}
 use Rattle.strips.proofs.Strips.{lines-none, lines-more}
 use Rattle.strips.proofs.Bridge.{painted-lines, opened-spot}
 use Rattle.strips.proofs.Handed.{sweep-is, handed-sane, handed-apart, handed-reach, handed-lines, handed-span, handed-room}
 use borrow.Author.Needs.{needs}
-use Rattle.strips.proofs.stripwise.put_strips.Statement.{statement}
-use Rattle.strips.proofs.stripwise.put_strips.Tie as tie
+use Rattle.strips.proofs.stripwise.raise_strips.Statement.{statement}
+use Rattle.strips.proofs.stripwise.raise_strips.Tie as tie
 
 abbrev Inv-loop : tie.InvT-loop
-Inv-loop src raise shape d length dst₀ scratch₀ s lines u₀ dst scratch u =
+Inv-loop src shape d length dst₀ scratch₀ s lines u₀ dst scratch u =
     (size scratch ≡ size scratch₀)
     × (u ≤ s .minors + s .top + 7)
-    × Placed s (below u) (λ (v i old : ℕ). mixed raise old (openedOn s src length v i)) dst₀ dst
+    × Placed s (below u) (λ (v i old : ℕ). max old (openedOn s src length v i)) dst₀ dst
 
 abbrev μ-loop : tie.MeasureT-loop
-μ-loop src raise shape d length dst₀ scratch₀ s lines u₀ dst scratch u = s .minors + s .top + 8 - u
+μ-loop src shape d length dst₀ scratch₀ s lines u₀ dst scratch u = s .minors + s .top + 8 - u
 
 sweep-of-requires : tie.Need-sweep-of-requires Inv-loop μ-loop
 sweep-of-requires c κs = search needs
@@ -48,8 +47,8 @@ mul-room c =
       c .before .before .loop .inv .0,
     )
 
-slice-relend-prefix-put-lines : tie.Need-slice-relend-prefix-put-lines Inv-loop μ-loop
-slice-relend-prefix-put-lines c =
+slice-relend-prefix-raise-lines : tie.Need-slice-relend-prefix-raise-lines Inv-loop μ-loop
+slice-relend-prefix-raise-lines c =
     let pre = c .before .before .before .before .before .before .before .before .before .pre in
     let sweep = c .before .before .before .before .before .sweep-of .ensures in
     omega (
@@ -60,16 +59,16 @@ slice-relend-prefix-put-lines c =
       c .before .before .before .loop .inv .0,
     )
 
-slice-aggregate-put-lines : tie.Need-slice-aggregate-put-lines Inv-loop μ-loop
-slice-aggregate-put-lines c =
+slice-aggregate-raise-lines : tie.Need-slice-aggregate-raise-lines Inv-loop μ-loop
+slice-aggregate-raise-lines c =
     let pre = c .before .before .before .before .before .before .before .before .before .before .pre in
     let sweep = c .before .before .before .before .before .before .sweep-of .ensures in
     let room = handed-room (pre .ok) sweep (c .before .before .before .before .loop .u) (c .before .before .before .loop-test .taken)
     (c .before .before .span-of .ensures) in
     sym (length-take-le _ _ (omega (arith, room, pre .scratch, c .before .before .before .before .loop .inv .0)))
 
-put-lines-requires : tie.Need-put-lines-requires Inv-loop μ-loop
-put-lines-requires c κs =
+raise-lines-requires : tie.Need-raise-lines-requires Inv-loop μ-loop
+raise-lines-requires c κs =
     let a = c .before .before .before .before .before .before .before .before .before .before .args in
     let pre = c .before .before .before .before .before .before .before .before .before .before .pre in
     let sweep = c .before .before .before .before .before .before .sweep-of .ensures in
@@ -104,11 +103,11 @@ loop-again c =
     let pre = c .before .before .before .before .before .before .before .before .before .before .before .before .before .before .before .pre in
     let sweep = c .before .before .before .before .before .before .before .before .before .before .before .sweep-of .ensures in
     let loop = c .before .before .before .before .before .before .before .before .before .loop in
-    let put = c .before .before .before .before .put-lines in (
-      length-front (loop .scratch) (put .last .1 .1 .1 .1 .1 .1 .1 .1 .0)
-          (8 * c .before .before .before .before .before .before .before .span-of .result .count) (put .kept .1 .1 .1 .1 .1 .1 .1 .1 .0) ∙ loop .inv .0,
+    let raised = c .before .before .before .before .raise-lines in (
+      length-front (loop .scratch) (raised .last .1 .1 .1 .1 .1 .1 .1 .0)
+          (8 * c .before .before .before .before .before .before .before .span-of .result .count) (raised .kept .1 .1 .1 .1 .1 .1 .1 .0) ∙ loop .inv .0,
       omega (arith, c .before .before .before .before .before .before .before .before .loop-test .taken),
-      lines-more (handed-apart (pre .ok) sweep) (loop .inv .2) (put .ensures),
+      lines-more (handed-apart (pre .ok) sweep) (loop .inv .2) (raised .ensures),
     )
 
 same-length : tie.Need-same-length Inv-loop μ-loop
@@ -125,13 +124,13 @@ returns c =
     let theirs = sweep-is ok (c .before .before .before .sweep-of .ensures) in
     let loop = c .before .loop in
     let all =
-    subst (λ (z : Sweep). Placed z (below (loop .u)) (λ (v i old : ℕ). mixed (a .raise) old (openedOn z (a .src .now) (a .length) v i)) (a .dst .now)
+    subst (λ (z : Sweep). Placed z (below (loop .u)) (λ (v i old : ℕ). max old (openedOn z (a .src .now) (a .length) v i)) (a .dst .now)
     (loop .dst)) theirs (loop .inv .2) in
     painted-lines (a .shape) (a .d) ok (loop .u) _ all (omega (arith, c .loop-test .left, ap (λ (z : Sweep). lines z) theirs))
-    (λ x y h l p. ap (mixed (a .raise) _) (sym (opened-spot (a .shape) (a .d) ok (a .src .now) (a .length) (pre .some) p)))
+    (λ x y h l p. ap (max _) (sym (opened-spot (a .shape) (a .d) ok (a .src .now) (a .length) (pre .some) p)))
 
-pub put-strips-spec : {M : Type 1} → statement M
-put-strips-spec =
+pub raise-strips-spec : {M : Type 1} → statement M
+raise-strips-spec =
     tie.close
     (tie.spec
     Inv-loop
@@ -141,9 +140,9 @@ put-strips-spec =
     loop-holds
     span-of-requires
     mul-room
-    slice-relend-prefix-put-lines
-    slice-aggregate-put-lines
-    put-lines-requires
+    slice-relend-prefix-raise-lines
+    slice-aggregate-raise-lines
+    raise-lines-requires
     add-u
     loop-less
     loop-again
