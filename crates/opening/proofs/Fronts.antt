@@ -6,8 +6,8 @@
 use mathlib.Core.Path.{_≡_, refl, sym, ap, ap₂, _∙_}
 use mathlib.Core.Bool.{true}
 use mathlib.Core.List.{List}
-use mathlib.Core.Logic.{⊎-elim}
-use Prim.Native.Nat.{ℕ, _+_, _-_, _*_, _/_, _%_, _≤_, _<_, max}
+use mathlib.Core.Logic.{inl, ⊎-elim}
+use Prim.Native.Nat.{ℕ, _+_, _-_, _*_, _/_, _%_, _≤_, _<_, max, zero-le}
 use native.Mathlib.Nat.{mul-comm, div-add-mod', mod-lt, div-lt-iff-lt-mul}
 use native.Mathlib.Omega.{arith}
 use lib.ListN.{length, getD, take, drop, length-drop}
@@ -15,8 +15,7 @@ use lib.Seq.{getD-drop}
 use Rattle.lists.specs.Stores.{Filled}
 use Rattle.lists.proofs.Cases.{less-or-not}
 use Rattle.lists.proofs.Parts.{tail-lent}
-use Rattle.line.specs.Passes.{widened}
-use Rattle.line.specs.Parts.{Brightens}
+use Rattle.passes.specs.Passes.{straight, met, Brightens}
 use Rattle.frame.specs.declared.direction.Direction.{Direction}
 use Rattle.frame.specs.declared.shape.Shape.{Shape}
 use Rattle.frame.specs.Shape.{isFrame}
@@ -48,9 +47,9 @@ module _ (f : List ℕ) (sh : Shape) (d : Direction) (L number behind : ℕ) (ok
   best-kept : (k : ℕ) → getD (drop behind t₁) k 0 ≡ getD (drop behind t) k 0
   best-kept k = getD-drop behind t₁ k 0 ∙ kept (behind + k) (omega arith) ∙ sym (getD-drop behind t k 0)
 
-  module _ {t₂ : List ℕ} (brightened : Brightens 0 (sh .width * sh .height) behind t₁ t₂) where
-    raised : Filled t₁ t₂ (0 + behind) (0 + behind + sh .width * sh .height) (widened t₁ behind)
-    raised = brightened .done (omega (arith, opened .same))
+  module _ {t₂ : List ℕ} (brightened : Brightens behind 0 (sh .width * sh .height) t₁ t₂) where
+    raised : Filled t₁ t₂ behind (behind + sh .width * sh .height) (met max (straight 0) behind t₁)
+    raised = brightened .done (omega (arith, opened .same), omega (arith, opened .same), inl zero-le)
 
     best-raised : Painted (packed sh) (λ (x y : ℕ). max (getD (drop behind t) (place (packed sh) (at x y)) 0) (openedPixel f sh d L x y)) (drop behind t) (drop behind t₂)
     best-raised =
@@ -59,7 +58,7 @@ module _ (f : List ℕ) (sh : Shape) (d : Direction) (L number behind : ℕ) (ok
           pixels = λ x y h l.
               let k = y * sh .width + x in
               let in′ = place-below (sh .width) (sh .height) x y h l in
-              let back : behind + k - behind ≡ k = omega arith in
+              let back : 0 + (behind + k - behind) ≡ k = omega arith in
               getD-drop behind t₂ k 0
               ∙ raised .within (behind + k) (omega arith) (omega (arith, in′))
               ∙ ap₂ max

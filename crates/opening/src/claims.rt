@@ -80,5 +80,5 @@ pub(crate) fn claim_by(
     opened_beside(src, shape, d, length, scratch);
     let frames = &scratch[..];
     claim_rows(frames, &frames[behind..], number, shape, dst);
-    line::brighten(scratch, 0, pixels, behind);
+    passes::brighten(scratch, behind, 0, pixels);
 }
