@@ -28,10 +28,16 @@ static bool open(const Frame &src, Direction d, long length, Frame &dst, Picture
     return fibre_open_frame(src.bytes.data(), src.bytes.size(), src.width, src.height, src.stride, d.p, d.q, length, dst.bytes.data(), dst.bytes.size(), scratch.data(), scratch.size()) == 0;
 }
 
-template <class Call> bool sixteen(Call call, const Frame &src, long length, Frame &dst, Picture &scratch)
+// The calls over the sixteen directions, with so many bytes of scratch. With ample scratch they open frames in it; with the least that their rules ask for
+// they go by strips.
+template <class Call> bool sixteen(Call call, const Frame &src, long length, Frame &dst, Picture &scratch, long spare)
 {
-    return call(src.bytes.data(), src.bytes.size(), src.width, src.height, src.stride, length, dst.bytes.data(), dst.bytes.size(), scratch.data(), scratch.size()).number == 0;
+    return call(src.bytes.data(), src.bytes.size(), src.width, src.height, src.stride, length, dst.bytes.data(), dst.bytes.size(), scratch.data(), spare).number == 0;
 }
+
+static long ample(const Frame &f) { return 2 * f.width * f.height; }
+static long least_for_highest(const Frame &f) { return 8 * std::max(f.width, f.height); }
+static long least_for_direction(const Frame &f) { return least_for_highest(f) + f.width * f.height; }
 
 // The highest of the openings so far, and the number of the first that reaches it, by their definitions.
 struct Leaders {
@@ -52,7 +58,7 @@ struct Leaders {
 static void check_small()
 {
     Frame src = blurred_frame(150, 70, 157);
-    Picture scratch(8 * 150 + 150 * 70);
+    Picture scratch(ample(src));
     for (long length : {1, 2, 5, 21, 64, 70, 71, 101, 150, 151}) {
         Frame ours(150, 70, 157, 9), opened = ours;
         Leaders leaders = {ours, ours};
@@ -61,8 +67,10 @@ static void check_small()
             expect(open(src, SIXTEEN[n], length, ours, scratch) && ours.bytes == opened.bytes, "The opening differs from its definition", SIXTEEN[n], length);
             leaders.follow(n, opened);
         }
-        expect(sixteen(bench_highest, src, length, ours, scratch) && ours.bytes == leaders.highest.bytes, "The highest opening differs from its definition", {}, length);
-        expect(sixteen(bench_direction_frame, src, length, ours, scratch) && ours.bytes == leaders.direction.bytes, "The direction frame differs from its definition", {}, length);
+        for (long spare : {ample(src), least_for_highest(src)})
+            expect(sixteen(bench_highest, src, length, ours, scratch, spare) && ours.bytes == leaders.highest.bytes, "The highest opening differs from its definition", {}, length);
+        for (long spare : {ample(src), least_for_direction(src)})
+            expect(sixteen(bench_direction_frame, src, length, ours, scratch, spare) && ours.bytes == leaders.direction.bytes, "The direction frame differs from its definition", {}, length);
     }
 }
 
@@ -86,13 +94,26 @@ struct Bench {
     Picture scratch;
     Leptonica leptonica;
     Times times[16][COUNT];
-    double highest[COUNT], direction[COUNT];
+    double highest[COUNT], highest_least[COUNT], direction[COUNT], direction_least[COUNT];
 
     Bench(long side, long stride)
-        : src(blurred_frame(side, side, stride)), ours(side, side, stride, 9), theirs(ours), scratch(8 * side + side * side), leptonica(src)
+        : src(blurred_frame(side, side, stride)), ours(side, side, stride, 9), theirs(ours), scratch(ample(src)), leptonica(src)
     {
     }
     template <class Call> double time(Call call) { return nanoseconds_a_pixel(src.pixels(), 15, 0.4, call); }
+    template <class Call> double time_sixteen(Call call, long length, long spare, const Frame &wanted)
+    {
+        double best = time([&] { expect(sixteen(call, src, length, ours, scratch, spare), "The call over sixteen directions is refused", {}, length); });
+        expect(ours.bytes == wanted.bytes, "The call over sixteen directions differs from the sixteen", {}, length);
+        return best;
+    }
+    double sum(int i) const
+    {
+        double total = 0;
+        for (auto &row : times)
+            total += row[i].ours;
+        return total;
+    }
     Times measure(Direction d, long length);
     void measure_all();
 };
@@ -123,10 +144,10 @@ void Bench::measure_all()
             times[n][i] = measure(SIXTEEN[n], LENGTHS[i]);
             leaders.follow(n, ours);
         }
-        highest[i] = time([&] { expect(sixteen(bench_highest, src, LENGTHS[i], ours, scratch), "The highest opening is refused", {}, LENGTHS[i]); });
-        expect(ours.bytes == leaders.highest.bytes, "The highest opening differs from the sixteen", {}, LENGTHS[i]);
-        direction[i] = time([&] { expect(sixteen(bench_direction_frame, src, LENGTHS[i], ours, scratch), "The direction frame is refused", {}, LENGTHS[i]); });
-        expect(ours.bytes == leaders.direction.bytes, "The direction frame differs from the sixteen", {}, LENGTHS[i]);
+        highest[i] = time_sixteen(bench_highest, LENGTHS[i], ample(src), leaders.highest);
+        highest_least[i] = time_sixteen(bench_highest, LENGTHS[i], least_for_highest(src), leaders.highest);
+        direction[i] = time_sixteen(bench_direction_frame, LENGTHS[i], ample(src), leaders.direction);
+        direction_least[i] = time_sixteen(bench_direction_frame, LENGTHS[i], least_for_direction(src), leaders.direction);
     }
 }
 
@@ -159,11 +180,40 @@ static void print_spread(const Bench &b, int i)
 
 static void print_sixteen(const Bench &b, int i)
 {
-    double sum = 0;
-    for (auto &row : b.times)
-        sum += row[i].ours;
-    std::printf("| %4ld x %4ld | %3ld | %7.2f | %7.2f | %5.2f | %7.2f | %5.2f |\n", b.src.width, b.src.height, LENGTHS[i], sum, b.highest[i], b.highest[i] / sum, b.direction[i],
-                b.direction[i] / sum);
+    double sum = b.sum(i);
+    std::printf("| %4ld x %4ld | %3ld | %7.2f", b.src.width, b.src.height, LENGTHS[i], sum);
+    for (double t : {b.highest[i], b.highest_least[i], b.direction[i], b.direction_least[i]})
+        std::printf(" | %7.2f | %5.2f", t, t / sum);
+    std::printf(" |\n");
+}
+
+// What the frames are to reach: the worst figure over some directions, and whether it is good enough.
+template <class Figure> void print_aim(const Bench &b, const char *aim, int first, int last, bool at_least, double limit, Figure figure)
+{
+    int worst = first;
+    for (int n = first; n <= last; n++)
+        if (at_least ? figure(n) < figure(worst) : figure(n) > figure(worst))
+            worst = n;
+    bool met = at_least ? figure(worst) >= limit : figure(worst) <= limit;
+    std::printf("| %4ld x %4ld | %s | at %s %.1f | %s, in (%ld, %ld) | %s |\n", b.src.width, b.src.height, aim, at_least ? "least" : "most", limit, times_as(figure(worst)).c_str(),
+                long(SIXTEEN[worst].p), long(SIXTEEN[worst].q), met ? "met" : "missed");
+}
+
+static void print_aims(const Bench &b)
+{
+    auto opencv = [&](int i) { return [&b, i](int n) { return b.times[n][i].opencv / b.times[n][i].ours; }; };
+    auto stack = [&](int i) { return [&b, i](int n) { return b.times[n][i].stack / b.times[n][i].ours; }; };
+    print_aim(b, "along: OpenCV's time at L = 21 over the library's", 0, 0, true, 2, opencv(1));
+    print_aim(b, "across and steep: OpenCV's at L = 21", 5, 11, true, 1.5, opencv(1));
+    print_aim(b, "shallow to the right, and (1, 1): OpenCV's at L = 21", 1, 4, true, 1, opencv(1));
+    print_aim(b, "shallow to the left, and (-1, 1): OpenCV's at L = 21", 12, 15, true, 1, opencv(1));
+    print_aim(b, "every direction: OpenCV's at L = 101", 0, 15, true, 4, opencv(2));
+    print_aim(b, "every direction: the stack's at L = 101", 0, 15, true, 3, stack(2));
+    print_aim(b, "every direction: the library's at L = 401 over its own at L = 21", 0, 15, false, 1.6, [&](int n) { return b.times[n][3].ours / b.times[n][1].ours; });
+    for (int i = 0; i < COUNT; i++) {
+        std::string aim = "highest, ample scratch, L = " + std::to_string(LENGTHS[i]) + ": its time over the sixteen openings'";
+        print_aim(b, aim.c_str(), 0, 0, false, 1, [&](int) { return b.highest[i] / b.sum(i); });
+    }
 }
 
 static void print_directions(const Bench &b)
@@ -207,11 +257,16 @@ int main(int argc, char **argv)
     for (auto &b : benches)
         for (int i = 0; i < COUNT; i++)
             print_spread(*b, i);
-    std::printf("\nThe highest opening and the direction frame, beside the sixteen openings one after the other: nanoseconds a pixel, and how many times their sum.\n\n");
-    std::printf("| frame | length | sixteen openings | highest | times the sum | direction frame | times the sum |\n|---|---|---|---|---|---|---|\n");
+    std::printf("\nThe highest opening and the direction frame, beside the sixteen openings one after the other: nanoseconds a pixel, and how many times their sum. With ample\n"
+                "scratch (2·W·H bytes) they open frames in it; with the least that their rules ask for they go by strips.\n\n");
+    std::printf("| frame | length | sixteen openings | highest | times the sum | least scratch | times | direction frame | times the sum | least scratch | times |\n"
+                "|---|---|---|---|---|---|---|---|---|---|---|\n");
     for (auto &b : benches)
         for (int i = 0; i < COUNT; i++)
             print_sixteen(*b, i);
+    std::printf("\nWhat was aimed at:\n\n| frame | figure | aim | worst | |\n|---|---|---|---|---|\n");
+    for (auto &b : benches)
+        print_aims(*b);
     FILE *file = std::fopen(argv[1], "w");
     if (!file)
         return 2;
