@@ -234,7 +234,7 @@ int main(int count, char **words)
     }
     size_t w = d.picture.width, h = d.picture.height, side = w > h ? w : h;
     d.length = (size_t)length;
-    d.spare = 8 * (side < 4096 ? side : 4096) + d.picture.bytes;
+    d.spare = 8 * (side < 4096 ? side : 4096) + 2 * d.picture.bytes;
     d.highest = malloc(d.picture.bytes + 1);
     d.directions = malloc(d.picture.bytes + 1);
     d.scratch = malloc(d.spare + 1);
