@@ -66,8 +66,8 @@ fn darken_bent_few(buf: &mut [u8], bends: &[u8], at: usize, near: usize, far: us
     }
 }
 
-// The same of the first blocks.
-fn darken_bent_blocks(
+// The same of the first blocks, upward.
+fn darken_bent_up_blocks(
     buf: &mut [u8],
     bends: &[u8],
     at: usize,
@@ -88,6 +88,57 @@ fn darken_bent_blocks(
     }
 }
 
+// The same of all, where there are more than a block.
+fn darken_bent_up(buf: &mut [u8], bends: &[u8], at: usize, near: usize, far: usize, n: usize)
+    requires { ⌜ Upward at near n (length (now buf)) × Upward at far n (length (now buf)) × (n ≤ length (now bends)) × (65 ≤ n) ⌝ }
+    ensures { λ _. ⌜ Filled (now (buf .entry)) (now (buf .exit)) at (at + n) (met min (bent (now (bends .entry)) near far) at (now (buf .entry))) ⌝ }
+{
+    let blocks = (n - 65) / 64;
+    let i = 64 * blocks;
+    darken_bent_up_blocks(buf, bends, at, near, far, n, blocks);
+    let next = darker_bent_block(buf, bends, at, near, far, i);
+    let last = darker_bent_block(buf, bends, at, near, far, n - 64);
+    put_block(buf, at + i, next);
+    put_block(buf, at + (n - 64), last);
+}
+
+// The last blocks, downward.
+fn darken_bent_down_blocks(
+    buf: &mut [u8],
+    bends: &[u8],
+    at: usize,
+    near: usize,
+    far: usize,
+    n: usize,
+    blocks: usize,
+)
+    requires { ⌜ Downward at near n (length (now buf)) × Downward at far n (length (now buf)) × (n ≤ length (now bends)) × (64 * blocks ≤ n) ⌝ }
+    ensures { λ _. ⌜ Filled (now (buf .entry)) (now (buf .exit)) (at + (n - 64 * blocks)) (at + n) (met min (bent (now (bends .entry)) near far) at (now (buf .entry))) ⌝ }
+{
+    let rest = n - 64 * blocks;
+    let mut k = blocks;
+    while 0 < k {
+        k -= 1;
+        let i = rest + 64 * k;
+        let t = darker_bent_block(buf, bends, at, near, far, i);
+        put_block(buf, at + i, t);
+    }
+}
+
+fn darken_bent_down(buf: &mut [u8], bends: &[u8], at: usize, near: usize, far: usize, n: usize)
+    requires { ⌜ Downward at near n (length (now buf)) × Downward at far n (length (now buf)) × (n ≤ length (now bends)) × (65 ≤ n) ⌝ }
+    ensures { λ _. ⌜ Filled (now (buf .entry)) (now (buf .exit)) at (at + n) (met min (bent (now (bends .entry)) near far) at (now (buf .entry))) ⌝ }
+{
+    let blocks = (n - 65) / 64;
+    let i = n - 64 * blocks - 64;
+    darken_bent_down_blocks(buf, bends, at, near, far, n, blocks);
+    let next = darker_bent_block(buf, bends, at, near, far, i);
+    let first = darker_bent_block(buf, bends, at, near, far, 0);
+    put_block(buf, at + i, next);
+    put_block(buf, at, first);
+}
+
+// Few bytes one by one, others in the order of the rows: downward where both rows of partners stand before this one.
 fn darken_bent_row(buf: &mut [u8], bends: &[u8], at: usize, near: usize, far: usize, n: usize)
     requires { ⌜ Upward at near n (length (now buf)) × Upward at far n (length (now buf)) × (n ≤ length (now bends)) ⌝ }
     ensures { λ _. ⌜ Filled (now (buf .entry)) (now (buf .exit)) at (at + n) (met min (bent (now (bends .entry)) near far) at (now (buf .entry))) ⌝ }
@@ -96,13 +147,15 @@ fn darken_bent_row(buf: &mut [u8], bends: &[u8], at: usize, near: usize, far: us
         darken_bent_few(buf, bends, at, near, far, n);
         return;
     }
-    let blocks = (n - 65) / 64;
-    let i = 64 * blocks;
-    darken_bent_blocks(buf, bends, at, near, far, n, blocks);
-    let next = darker_bent_block(buf, bends, at, near, far, i);
-    let last = darker_bent_block(buf, bends, at, near, far, n - 64);
-    put_block(buf, at + i, next);
-    put_block(buf, at + (n - 64), last);
+    if at <= near {
+        darken_bent_up(buf, bends, at, near, far, n);
+        return;
+    }
+    if at <= far {
+        darken_bent_up(buf, bends, at, near, far, n);
+        return;
+    }
+    darken_bent_down(buf, bends, at, near, far, n);
 }
 
 // Each of the n bytes from `at` on becomes the darker of itself and its partner among those from `near` on, or from `far` on where it is
@@ -156,8 +209,44 @@ fn brighten_bent_few(buf: &mut [u8], bends: &[u8], at: usize, near: usize, far: 
     }
 }
 
-// The same of the last blocks.
-fn brighten_bent_blocks(
+// The same of the first blocks, upward.
+fn brighten_bent_up_blocks(
+    buf: &mut [u8],
+    bends: &[u8],
+    at: usize,
+    near: usize,
+    far: usize,
+    n: usize,
+    blocks: usize,
+)
+    requires { ⌜ Upward at near n (length (now buf)) × Upward at far n (length (now buf)) × (n ≤ length (now bends)) × (64 * blocks ≤ n) ⌝ }
+    ensures { λ _. ⌜ Filled (now (buf .entry)) (now (buf .exit)) at (at + 64 * blocks) (met max (bent (now (bends .entry)) near far) at (now (buf .entry))) ⌝ }
+{
+    let mut k = 0;
+    while k < blocks {
+        let i = 64 * k;
+        let t = brighter_bent_block(buf, bends, at, near, far, i);
+        put_block(buf, at + i, t);
+        k += 1;
+    }
+}
+
+// The same of all, where there are more than a block.
+fn brighten_bent_up(buf: &mut [u8], bends: &[u8], at: usize, near: usize, far: usize, n: usize)
+    requires { ⌜ Upward at near n (length (now buf)) × Upward at far n (length (now buf)) × (n ≤ length (now bends)) × (65 ≤ n) ⌝ }
+    ensures { λ _. ⌜ Filled (now (buf .entry)) (now (buf .exit)) at (at + n) (met max (bent (now (bends .entry)) near far) at (now (buf .entry))) ⌝ }
+{
+    let blocks = (n - 65) / 64;
+    let i = 64 * blocks;
+    brighten_bent_up_blocks(buf, bends, at, near, far, n, blocks);
+    let next = brighter_bent_block(buf, bends, at, near, far, i);
+    let last = brighter_bent_block(buf, bends, at, near, far, n - 64);
+    put_block(buf, at + i, next);
+    put_block(buf, at + (n - 64), last);
+}
+
+// The last blocks, downward.
+fn brighten_bent_down_blocks(
     buf: &mut [u8],
     bends: &[u8],
     at: usize,
@@ -179,6 +268,20 @@ fn brighten_bent_blocks(
     }
 }
 
+fn brighten_bent_down(buf: &mut [u8], bends: &[u8], at: usize, near: usize, far: usize, n: usize)
+    requires { ⌜ Downward at near n (length (now buf)) × Downward at far n (length (now buf)) × (n ≤ length (now bends)) × (65 ≤ n) ⌝ }
+    ensures { λ _. ⌜ Filled (now (buf .entry)) (now (buf .exit)) at (at + n) (met max (bent (now (bends .entry)) near far) at (now (buf .entry))) ⌝ }
+{
+    let blocks = (n - 65) / 64;
+    let i = n - 64 * blocks - 64;
+    brighten_bent_down_blocks(buf, bends, at, near, far, n, blocks);
+    let next = brighter_bent_block(buf, bends, at, near, far, i);
+    let first = brighter_bent_block(buf, bends, at, near, far, 0);
+    put_block(buf, at + i, next);
+    put_block(buf, at, first);
+}
+
+// Few bytes one by one, others in the order of the rows: upward where both rows of partners stand behind this one.
 fn brighten_bent_row(buf: &mut [u8], bends: &[u8], at: usize, near: usize, far: usize, n: usize)
     requires { ⌜ Downward at near n (length (now buf)) × Downward at far n (length (now buf)) × (n ≤ length (now bends)) ⌝ }
     ensures { λ _. ⌜ Filled (now (buf .entry)) (now (buf .exit)) at (at + n) (met max (bent (now (bends .entry)) near far) at (now (buf .entry))) ⌝ }
@@ -187,13 +290,15 @@ fn brighten_bent_row(buf: &mut [u8], bends: &[u8], at: usize, near: usize, far: 
         brighten_bent_few(buf, bends, at, near, far, n);
         return;
     }
-    let blocks = (n - 65) / 64;
-    let i = n - 64 * blocks - 64;
-    brighten_bent_blocks(buf, bends, at, near, far, n, blocks);
-    let next = brighter_bent_block(buf, bends, at, near, far, i);
-    let first = brighter_bent_block(buf, bends, at, near, far, 0);
-    put_block(buf, at + i, next);
-    put_block(buf, at, first);
+    if near <= at {
+        brighten_bent_down(buf, bends, at, near, far, n);
+        return;
+    }
+    if far <= at {
+        brighten_bent_down(buf, bends, at, near, far, n);
+        return;
+    }
+    brighten_bent_up(buf, bends, at, near, far, n);
 }
 
 // Each of the n bytes from `at` on becomes the brighter of itself and its partner among those from `near` on, or from `far` on where it is

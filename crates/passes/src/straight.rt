@@ -1,5 +1,6 @@
 // A pass whose partners stand side by side in one row. The last two blocks overlap, so that nothing is left to go one by one: both are made before either
 // is stored. They come last, since what they read may still be on its way from the pass before.
+// A pass over rows goes through memory one way: within a row as from row to row, away from or towards the partners' rows alike.
 use crate::block::brighter;
 use crate::block::darker;
 use crate::block::put_block;
@@ -38,8 +39,8 @@ fn darken_few(buf: &mut [u8], at: usize, from: usize, n: usize)
     }
 }
 
-// The same of the first blocks.
-fn darken_blocks(buf: &mut [u8], at: usize, from: usize, n: usize, blocks: usize)
+// The same of the first blocks, upward.
+fn darken_up_blocks(buf: &mut [u8], at: usize, from: usize, n: usize, blocks: usize)
     requires { ⌜ Upward at from n (length (now buf)) × (64 * blocks ≤ n) ⌝ }
     ensures { λ _. ⌜ Filled (now (buf .entry)) (now (buf .exit)) at (at + 64 * blocks) (met min (straight from) at (now (buf .entry))) ⌝ }
 {
@@ -52,6 +53,49 @@ fn darken_blocks(buf: &mut [u8], at: usize, from: usize, n: usize, blocks: usize
     }
 }
 
+// The same of all, where there are more than a block.
+fn darken_up(buf: &mut [u8], at: usize, from: usize, n: usize)
+    requires { ⌜ Upward at from n (length (now buf)) × (65 ≤ n) ⌝ }
+    ensures { λ _. ⌜ Filled (now (buf .entry)) (now (buf .exit)) at (at + n) (met min (straight from) at (now (buf .entry))) ⌝ }
+{
+    let blocks = (n - 65) / 64;
+    let i = 64 * blocks;
+    darken_up_blocks(buf, at, from, n, blocks);
+    let next = darker_block(buf, at, from, i);
+    let last = darker_block(buf, at, from, n - 64);
+    put_block(buf, at + i, next);
+    put_block(buf, at + (n - 64), last);
+}
+
+// The last blocks, downward.
+fn darken_down_blocks(buf: &mut [u8], at: usize, from: usize, n: usize, blocks: usize)
+    requires { ⌜ Downward at from n (length (now buf)) × (64 * blocks ≤ n) ⌝ }
+    ensures { λ _. ⌜ Filled (now (buf .entry)) (now (buf .exit)) (at + (n - 64 * blocks)) (at + n) (met min (straight from) at (now (buf .entry))) ⌝ }
+{
+    let rest = n - 64 * blocks;
+    let mut k = blocks;
+    while 0 < k {
+        k -= 1;
+        let i = rest + 64 * k;
+        let t = darker_block(buf, at, from, i);
+        put_block(buf, at + i, t);
+    }
+}
+
+fn darken_down(buf: &mut [u8], at: usize, from: usize, n: usize)
+    requires { ⌜ Downward at from n (length (now buf)) × (65 ≤ n) ⌝ }
+    ensures { λ _. ⌜ Filled (now (buf .entry)) (now (buf .exit)) at (at + n) (met min (straight from) at (now (buf .entry))) ⌝ }
+{
+    let blocks = (n - 65) / 64;
+    let i = n - 64 * blocks - 64;
+    darken_down_blocks(buf, at, from, n, blocks);
+    let next = darker_block(buf, at, from, i);
+    let first = darker_block(buf, at, from, 0);
+    put_block(buf, at + i, next);
+    put_block(buf, at, first);
+}
+
+// Few bytes one by one, others in the order of the rows: downward where the partners stand before this one.
 fn darken_row(buf: &mut [u8], at: usize, from: usize, n: usize)
     requires { ⌜ Upward at from n (length (now buf)) ⌝ }
     ensures { λ _. ⌜ Filled (now (buf .entry)) (now (buf .exit)) at (at + n) (met min (straight from) at (now (buf .entry))) ⌝ }
@@ -60,13 +104,11 @@ fn darken_row(buf: &mut [u8], at: usize, from: usize, n: usize)
         darken_few(buf, at, from, n);
         return;
     }
-    let blocks = (n - 65) / 64;
-    let i = 64 * blocks;
-    darken_blocks(buf, at, from, n, blocks);
-    let next = darker_block(buf, at, from, i);
-    let last = darker_block(buf, at, from, n - 64);
-    put_block(buf, at + i, next);
-    put_block(buf, at + (n - 64), last);
+    if at <= from {
+        darken_up(buf, at, from, n);
+        return;
+    }
+    darken_down(buf, at, from, n);
 }
 
 // Each of the n bytes from `at` on becomes the darker of itself and its partner among those from `from` on. Where one of them is not in the buffer, or the
@@ -107,8 +149,36 @@ fn brighten_few(buf: &mut [u8], at: usize, from: usize, n: usize)
     }
 }
 
-// The same of the last blocks.
-fn brighten_blocks(buf: &mut [u8], at: usize, from: usize, n: usize, blocks: usize)
+// The same of the first blocks, upward.
+fn brighten_up_blocks(buf: &mut [u8], at: usize, from: usize, n: usize, blocks: usize)
+    requires { ⌜ Upward at from n (length (now buf)) × (64 * blocks ≤ n) ⌝ }
+    ensures { λ _. ⌜ Filled (now (buf .entry)) (now (buf .exit)) at (at + 64 * blocks) (met max (straight from) at (now (buf .entry))) ⌝ }
+{
+    let mut k = 0;
+    while k < blocks {
+        let i = 64 * k;
+        let t = brighter_block(buf, at, from, i);
+        put_block(buf, at + i, t);
+        k += 1;
+    }
+}
+
+// The same of all, where there are more than a block.
+fn brighten_up(buf: &mut [u8], at: usize, from: usize, n: usize)
+    requires { ⌜ Upward at from n (length (now buf)) × (65 ≤ n) ⌝ }
+    ensures { λ _. ⌜ Filled (now (buf .entry)) (now (buf .exit)) at (at + n) (met max (straight from) at (now (buf .entry))) ⌝ }
+{
+    let blocks = (n - 65) / 64;
+    let i = 64 * blocks;
+    brighten_up_blocks(buf, at, from, n, blocks);
+    let next = brighter_block(buf, at, from, i);
+    let last = brighter_block(buf, at, from, n - 64);
+    put_block(buf, at + i, next);
+    put_block(buf, at + (n - 64), last);
+}
+
+// The last blocks, downward.
+fn brighten_down_blocks(buf: &mut [u8], at: usize, from: usize, n: usize, blocks: usize)
     requires { ⌜ Downward at from n (length (now buf)) × (64 * blocks ≤ n) ⌝ }
     ensures { λ _. ⌜ Filled (now (buf .entry)) (now (buf .exit)) (at + (n - 64 * blocks)) (at + n) (met max (straight from) at (now (buf .entry))) ⌝ }
 {
@@ -122,6 +192,20 @@ fn brighten_blocks(buf: &mut [u8], at: usize, from: usize, n: usize, blocks: usi
     }
 }
 
+fn brighten_down(buf: &mut [u8], at: usize, from: usize, n: usize)
+    requires { ⌜ Downward at from n (length (now buf)) × (65 ≤ n) ⌝ }
+    ensures { λ _. ⌜ Filled (now (buf .entry)) (now (buf .exit)) at (at + n) (met max (straight from) at (now (buf .entry))) ⌝ }
+{
+    let blocks = (n - 65) / 64;
+    let i = n - 64 * blocks - 64;
+    brighten_down_blocks(buf, at, from, n, blocks);
+    let next = brighter_block(buf, at, from, i);
+    let first = brighter_block(buf, at, from, 0);
+    put_block(buf, at + i, next);
+    put_block(buf, at, first);
+}
+
+// Few bytes one by one, others in the order of the rows: upward where the partners stand behind this one.
 fn brighten_row(buf: &mut [u8], at: usize, from: usize, n: usize)
     requires { ⌜ Downward at from n (length (now buf)) ⌝ }
     ensures { λ _. ⌜ Filled (now (buf .entry)) (now (buf .exit)) at (at + n) (met max (straight from) at (now (buf .entry))) ⌝ }
@@ -130,13 +214,11 @@ fn brighten_row(buf: &mut [u8], at: usize, from: usize, n: usize)
         brighten_few(buf, at, from, n);
         return;
     }
-    let blocks = (n - 65) / 64;
-    let i = n - 64 * blocks - 64;
-    brighten_blocks(buf, at, from, n, blocks);
-    let next = brighter_block(buf, at, from, i);
-    let first = brighter_block(buf, at, from, 0);
-    put_block(buf, at + i, next);
-    put_block(buf, at, first);
+    if from <= at {
+        brighten_down(buf, at, from, n);
+        return;
+    }
+    brighten_up(buf, at, from, n);
 }
 
 // Each of the n bytes from `at` on becomes the brighter of itself and its partner among those from `from` on. Where one of them is not in the buffer, or

@@ -1,10 +1,6 @@
--- Few bytes one by one; else by blocks, the last two of which overlap.
-use mathlib.Core.Path.{refl}
-use Prim.Native.Nat.{_+_, _-_, _*_, _/_, max}
-use native.Mathlib.Nat.{le-refl}
+-- By the row's length, and where its partners stand.
+use mathlib.Core.Logic.{inl}
 use native.Mathlib.Omega.{arith}
-use Rattle.passes.specs.Passes.{bent}
-use Rattle.passes.proofs.Blocks.{bent-outlasts, met-early, met-block-before, met-first}
 use borrow.Author.Needs.{needs}
 use Rattle.passes.proofs.bent.brighten_bent_row.Statement.{statement}
 use Rattle.passes.proofs.bent.brighten_bent_row.Tie as tie
@@ -18,52 +14,32 @@ same-length c = search needs
 returns : tie.Need-returns
 returns c = search needs
 
-mul-i : tie.Need-mul-i
-mul-i c = search needs
-
-sub-i : tie.Need-sub-i
-sub-i c = search needs
-
-sub-i-2 : tie.Need-sub-i-2
-sub-i-2 c = search needs
-
-brighten-bent-blocks-requires : tie.Need-brighten-bent-blocks-requires
-brighten-bent-blocks-requires c κs = search needs
-
-brighter-bent-block-requires : tie.Need-brighter-bent-block-requires
-brighter-bent-block-requires c κs = search needs
-
-brighter-bent-block-requires-2 : tie.Need-brighter-bent-block-requires-2
-brighter-bent-block-requires-2 c κs = search needs
-
-add-put-block : tie.Need-add-put-block
-add-put-block c = search needs
-
-put-block-requires : tie.Need-put-block-requires
-put-block-requires c κs = search needs
-
-put-block-requires-2 : tie.Need-put-block-requires-2
-put-block-requires-2 c κs = search needs
+brighten-bent-down-requires : tie.Need-brighten-bent-down-requires
+brighten-bent-down-requires c κs = search needs
 
 same-length-2 : tie.Need-same-length-2
 same-length-2 c = search needs
 
 returns-2 : tie.Need-returns-2
-returns-2 c =
-    let a = c .before .before .before .before .before .before .before .before .before .before .before .before .before .before .before .before .before .before .before .args in
-    let p = c .before .before .before .before .before .before .before .before .before .before .before .before .before .before .before .before .before .before .before .pre in
-    let wide = c .before .before .before .before .before .before .before .before .before .before .before .before .before .before .before .before .if1 .left in
-    let partner = bent (a .bends .now) (a .near) (a .far) in
-    let stay = bent-outlasts (a .bends .now) (a .at) (a .near) (a .far) (a .n) (p .0 .2) (p .1 .2) in
-    let i = a .n - 64 * ((a .n - 65) / 64) - 64 in
-    let back = c .before .before .before .before .before .before .before .before .before .before .before .before .before .before .brighten-bent-blocks .ensures in
-    let next = c .before .before .before .before .before .before .before .before .before .before .brighter-bent-block in
-    let first = c .before .before .before .before .before .before .before .before .brighter-bent-block2 in
-    let earlier = met-early max partner (a .at) (a .n) stay 64 (first .result) 0 back (le-refl (a .at + a .n)) (omega (arith, wide)) (first .ensures) in
-    let more = met-block-before max partner (a .at) (a .n) stay 64 (next .result) i back (omega (arith, wide)) (omega (arith, wide)) (next .ensures)
-    (c .before .before .before .before .before .before .put-block .ensures) in
-    met-first max partner (a .at) (a .buf .now) 64 (first .result) 0 (a .at) earlier (c .before .before .put-block2 .ensures) (omega arith) more (omega arith)
-    (omega (arith, wide)) (omega (arith, wide)) refl
+returns-2 c = search needs
+
+brighten-bent-down-requires-2 : tie.Need-brighten-bent-down-requires-2
+brighten-bent-down-requires-2 c κs = search needs
+
+same-length-3 : tie.Need-same-length-3
+same-length-3 c = search needs
+
+returns-3 : tie.Need-returns-3
+returns-3 c = search needs
+
+brighten-bent-up-requires : tie.Need-brighten-bent-up-requires
+brighten-bent-up-requires c κs = let p = c .before .before .before .before .before .before .pre in ((p .0 .0, p .0 .1, inl (omega arith)), (p .1 .0, p .1 .1, inl (omega arith)), p .2, omega arith)
+
+same-length-4 : tie.Need-same-length-4
+same-length-4 c = search needs
+
+returns-4 : tie.Need-returns-4
+returns-4 c = search needs
 
 pub brighten-bent-row-spec : {M : Type 1} → statement M
 brighten-bent-row-spec =
@@ -72,14 +48,12 @@ brighten-bent-row-spec =
     brighten-bent-few-requires
     same-length
     returns
-    mul-i
-    sub-i
-    sub-i-2
-    brighten-bent-blocks-requires
-    brighter-bent-block-requires
-    brighter-bent-block-requires-2
-    add-put-block
-    put-block-requires
-    put-block-requires-2
+    brighten-bent-down-requires
     same-length-2
-    returns-2)
+    returns-2
+    brighten-bent-down-requires-2
+    same-length-3
+    returns-3
+    brighten-bent-up-requires
+    same-length-4
+    returns-4)

@@ -1,10 +1,6 @@
--- Few bytes one by one; else by blocks, the last two of which overlap.
-use mathlib.Core.Path.{refl}
-use Prim.Native.Nat.{_-_, _*_, _/_, min}
-use native.Mathlib.Nat.{le-refl}
+-- By the row's length, and where its partners stand.
+use mathlib.Core.Logic.{inl}
 use native.Mathlib.Omega.{arith}
-use Rattle.passes.specs.Passes.{bent}
-use Rattle.passes.proofs.Blocks.{bent-awaits, met-late, met-block, met-last}
 use borrow.Author.Needs.{needs}
 use Rattle.passes.proofs.bent.darken_bent_row.Statement.{statement}
 use Rattle.passes.proofs.bent.darken_bent_row.Tie as tie
@@ -18,55 +14,32 @@ same-length c = search needs
 returns : tie.Need-returns
 returns c = search needs
 
-mul-i : tie.Need-mul-i
-mul-i c = search needs
-
-darken-bent-blocks-requires : tie.Need-darken-bent-blocks-requires
-darken-bent-blocks-requires c κs = search needs
-
-darker-bent-block-requires : tie.Need-darker-bent-block-requires
-darker-bent-block-requires c κs = search needs
-
-sub-darker-bent-block : tie.Need-sub-darker-bent-block
-sub-darker-bent-block c = search needs
-
-darker-bent-block-requires-2 : tie.Need-darker-bent-block-requires-2
-darker-bent-block-requires-2 c κs = search needs
-
-add-put-block : tie.Need-add-put-block
-add-put-block c = search needs
-
-put-block-requires : tie.Need-put-block-requires
-put-block-requires c κs = search needs
-
-sub-put-block : tie.Need-sub-put-block
-sub-put-block c = search needs
-
-add-put-block-2 : tie.Need-add-put-block-2
-add-put-block-2 c = search needs
-
-put-block-requires-2 : tie.Need-put-block-requires-2
-put-block-requires-2 c κs = search needs
+darken-bent-up-requires : tie.Need-darken-bent-up-requires
+darken-bent-up-requires c κs = search needs
 
 same-length-2 : tie.Need-same-length-2
 same-length-2 c = search needs
 
 returns-2 : tie.Need-returns-2
-returns-2 c =
-    let a = c .before .before .before .before .before .before .before .before .before .before .before .before .before .before .before .before .before .before .before .args in
-    let p = c .before .before .before .before .before .before .before .before .before .before .before .before .before .before .before .before .before .before .before .pre in
-    let wide = c .before .before .before .before .before .before .before .before .before .before .before .before .before .before .before .before .if1 .left in
-    let partner = bent (a .bends .now) (a .near) (a .far) in
-    let stay = bent-awaits (a .bends .now) (a .at) (a .near) (a .far) (a .n) (p .0 .2) (p .1 .2) in
-    let i = 64 * ((a .n - 65) / 64) in
-    let front = c .before .before .before .before .before .before .before .before .before .before .before .before .before .before .darken-bent-blocks .ensures in
-    let next = c .before .before .before .before .before .before .before .before .before .before .darker-bent-block in
-    let last = c .before .before .before .before .before .before .before .before .darker-bent-block2 in
-    let later = met-late min partner (a .at) (a .n) stay 64 (last .result) (a .n - 64) front (le-refl (a .at)) (omega arith) (omega (arith, wide)) (omega (arith, wide))
-    (last .ensures) in
-    let more = met-block min partner (a .at) (a .n) stay 64 (next .result) i front (omega (arith, wide)) (next .ensures) (c .before .before .before .before .before .before .put-block .ensures) in
-    met-last min partner (a .at) (a .buf .now) 64 (last .result) (a .n - 64) _ later (c .before .before .put-block2 .ensures) refl more (omega (arith, wide))
-    (omega (arith, wide)) (omega (arith, wide))
+returns-2 c = search needs
+
+darken-bent-up-requires-2 : tie.Need-darken-bent-up-requires-2
+darken-bent-up-requires-2 c κs = search needs
+
+same-length-3 : tie.Need-same-length-3
+same-length-3 c = search needs
+
+returns-3 : tie.Need-returns-3
+returns-3 c = search needs
+
+darken-bent-down-requires : tie.Need-darken-bent-down-requires
+darken-bent-down-requires c κs = let p = c .before .before .before .before .before .before .pre in ((p .0 .0, p .0 .1, inl (omega arith)), (p .1 .0, p .1 .1, inl (omega arith)), p .2, omega arith)
+
+same-length-4 : tie.Need-same-length-4
+same-length-4 c = search needs
+
+returns-4 : tie.Need-returns-4
+returns-4 c = search needs
 
 pub darken-bent-row-spec : {M : Type 1} → statement M
 darken-bent-row-spec =
@@ -75,15 +48,12 @@ darken-bent-row-spec =
     darken-bent-few-requires
     same-length
     returns
-    mul-i
-    darken-bent-blocks-requires
-    darker-bent-block-requires
-    sub-darker-bent-block
-    darker-bent-block-requires-2
-    add-put-block
-    put-block-requires
-    sub-put-block
-    add-put-block-2
-    put-block-requires-2
+    darken-bent-up-requires
     same-length-2
-    returns-2)
+    returns-2
+    darken-bent-up-requires-2
+    same-length-3
+    returns-3
+    darken-bent-down-requires
+    same-length-4
+    returns-4)

@@ -1,10 +1,6 @@
--- Few bytes one by one; else by blocks, the last two of which overlap.
-use mathlib.Core.Path.{refl}
-use Prim.Native.Nat.{_-_, _*_, _/_, min}
-use native.Mathlib.Nat.{le-refl}
+-- By the row's length, and where its partners stand.
+use mathlib.Core.Logic.{inl}
 use native.Mathlib.Omega.{arith}
-use Rattle.passes.specs.Passes.{straight}
-use Rattle.passes.proofs.Blocks.{straight-awaits, met-late, met-block, met-last}
 use borrow.Author.Needs.{needs}
 use Rattle.passes.proofs.straight.darken_row.Statement.{statement}
 use Rattle.passes.proofs.straight.darken_row.Tie as tie
@@ -18,55 +14,23 @@ same-length c = search needs
 returns : tie.Need-returns
 returns c = search needs
 
-mul-i : tie.Need-mul-i
-mul-i c = search needs
-
-darken-blocks-requires : tie.Need-darken-blocks-requires
-darken-blocks-requires c κs = search needs
-
-darker-block-requires : tie.Need-darker-block-requires
-darker-block-requires c κs = search needs
-
-sub-darker-block : tie.Need-sub-darker-block
-sub-darker-block c = search needs
-
-darker-block-requires-2 : tie.Need-darker-block-requires-2
-darker-block-requires-2 c κs = search needs
-
-add-put-block : tie.Need-add-put-block
-add-put-block c = search needs
-
-put-block-requires : tie.Need-put-block-requires
-put-block-requires c κs = search needs
-
-sub-put-block : tie.Need-sub-put-block
-sub-put-block c = search needs
-
-add-put-block-2 : tie.Need-add-put-block-2
-add-put-block-2 c = search needs
-
-put-block-requires-2 : tie.Need-put-block-requires-2
-put-block-requires-2 c κs = search needs
+darken-up-requires : tie.Need-darken-up-requires
+darken-up-requires c κs = search needs
 
 same-length-2 : tie.Need-same-length-2
 same-length-2 c = search needs
 
 returns-2 : tie.Need-returns-2
-returns-2 c =
-    let a = c .before .before .before .before .before .before .before .before .before .before .before .before .before .before .before .before .before .before .args in
-    let p = c .before .before .before .before .before .before .before .before .before .before .before .before .before .before .before .before .before .before .pre in
-    let wide = c .before .before .before .before .before .before .before .before .before .before .before .before .before .before .before .before .if1 .left in
-    let partner = straight (a .from) in
-    let stay = straight-awaits (a .at) (a .from) (a .n) (p .2) in
-    let i = 64 * ((a .n - 65) / 64) in
-    let front = c .before .before .before .before .before .before .before .before .before .before .before .before .before .before .darken-blocks .ensures in
-    let next = c .before .before .before .before .before .before .before .before .before .before .darker-block in
-    let last = c .before .before .before .before .before .before .before .before .darker-block2 in
-    let later = met-late min partner (a .at) (a .n) stay 64 (last .result) (a .n - 64) front (le-refl (a .at)) (omega arith) (omega (arith, wide)) (omega (arith, wide))
-    (last .ensures) in
-    let more = met-block min partner (a .at) (a .n) stay 64 (next .result) i front (omega (arith, wide)) (next .ensures) (c .before .before .before .before .before .before .put-block .ensures) in
-    met-last min partner (a .at) (a .buf .now) 64 (last .result) (a .n - 64) _ later (c .before .before .put-block2 .ensures) refl more (omega (arith, wide))
-    (omega (arith, wide)) (omega (arith, wide))
+returns-2 c = search needs
+
+darken-down-requires : tie.Need-darken-down-requires
+darken-down-requires c κs = let p = c .before .before .before .before .pre in ((p .0, p .1, inl (omega arith)), omega arith)
+
+same-length-3 : tie.Need-same-length-3
+same-length-3 c = search needs
+
+returns-3 : tie.Need-returns-3
+returns-3 c = search needs
 
 pub darken-row-spec : {M : Type 1} → statement M
 darken-row-spec =
@@ -75,15 +39,9 @@ darken-row-spec =
     darken-few-requires
     same-length
     returns
-    mul-i
-    darken-blocks-requires
-    darker-block-requires
-    sub-darker-block
-    darker-block-requires-2
-    add-put-block
-    put-block-requires
-    sub-put-block
-    add-put-block-2
-    put-block-requires-2
+    darken-up-requires
     same-length-2
-    returns-2)
+    returns-2
+    darken-down-requires
+    same-length-3
+    returns-3)

@@ -7,8 +7,8 @@ use Rattle.lists.proofs.Stores.{filled-none, filled-start}
 use Rattle.passes.specs.Passes.{bent, met}
 use Rattle.passes.proofs.Blocks.{bent-outlasts, met-block-before}
 use borrow.Author.Needs.{needs}
-use Rattle.passes.proofs.bent.brighten_bent_blocks.Statement.{statement}
-use Rattle.passes.proofs.bent.brighten_bent_blocks.Tie as tie
+use Rattle.passes.proofs.bent.brighten_bent_down_blocks.Statement.{statement}
+use Rattle.passes.proofs.bent.brighten_bent_down_blocks.Tie as tie
 
 abbrev Inv-loop : tie.InvT-loop
 Inv-loop buf₀ bends at near far n blocks rest k₀ buf k = (rest + 64 * k ≤ n) × Filled buf₀ buf (at + (rest + 64 * k)) (at + n) (met max (bent bends near far) at buf₀)
@@ -67,8 +67,8 @@ returns c =
     let end : a .at + (a .n - 64 * a .blocks + 64 * c .before .loop .k) ≡ a .at + (a .n - 64 * a .blocks) = omega (arith, c .loop-test .left, c .before .loop .inv .0) in
     filled-start (c .before .loop .inv .1) end
 
-pub brighten-bent-blocks-spec : {M : Type 1} → statement M
-brighten-bent-blocks-spec =
+pub brighten-bent-down-blocks-spec : {M : Type 1} → statement M
+brighten-bent-down-blocks-spec =
     tie.close
     (tie.spec
     Inv-loop

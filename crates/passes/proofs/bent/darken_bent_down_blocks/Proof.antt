@@ -3,24 +3,36 @@ use mathlib.Core.Path.{_≡_}
 use Prim.Native.Nat.{_+_, _-_, _*_, _≤_, min}
 use native.Mathlib.Omega.{arith}
 use Rattle.lists.specs.Stores.{Filled}
-use Rattle.lists.proofs.Stores.{filled-none, filled-end}
+use Rattle.lists.proofs.Stores.{filled-none, filled-start}
 use Rattle.passes.specs.Passes.{bent, met}
-use Rattle.passes.proofs.Blocks.{bent-awaits, met-block}
+use Rattle.passes.proofs.Blocks.{bent-outlasts, met-block-before}
 use borrow.Author.Needs.{needs}
-use Rattle.passes.proofs.bent.darken_bent_blocks.Statement.{statement}
-use Rattle.passes.proofs.bent.darken_bent_blocks.Tie as tie
+use Rattle.passes.proofs.bent.darken_bent_down_blocks.Statement.{statement}
+use Rattle.passes.proofs.bent.darken_bent_down_blocks.Tie as tie
 
 abbrev Inv-loop : tie.InvT-loop
-Inv-loop buf₀ bends at near far n blocks k₀ buf k = (k ≤ blocks) × Filled buf₀ buf at (at + 64 * k) (met min (bent bends near far) at buf₀)
+Inv-loop buf₀ bends at near far n blocks rest k₀ buf k = (rest + 64 * k ≤ n) × Filled buf₀ buf (at + (rest + 64 * k)) (at + n) (met min (bent bends near far) at buf₀)
 
 abbrev μ-loop : tie.MeasureT-loop
-μ-loop buf₀ bends at near far n blocks k₀ buf k = blocks - k
+μ-loop buf₀ bends at near far n blocks rest k₀ buf k = k
+
+mul-rest : tie.Need-mul-rest Inv-loop μ-loop
+mul-rest c = search needs
+
+sub-rest : tie.Need-sub-rest Inv-loop μ-loop
+sub-rest c = search needs
 
 loop-holds : tie.Need-loop-holds Inv-loop μ-loop
-loop-holds c = (omega arith, filled-end (filled-none _ _ _) (omega arith))
+loop-holds c = (omega arith, filled-start (filled-none _ _ _) (omega arith))
+
+sub-k : tie.Need-sub-k Inv-loop μ-loop
+sub-k c = search needs
 
 mul-i : tie.Need-mul-i Inv-loop μ-loop
 mul-i c = search needs
+
+add-i : tie.Need-add-i Inv-loop μ-loop
+add-i c = search needs
 
 darker-bent-block-requires : tie.Need-darker-bent-block-requires Inv-loop μ-loop
 darker-bent-block-requires c κs = search needs
@@ -31,9 +43,6 @@ add-put-block c = search needs
 put-block-requires : tie.Need-put-block-requires Inv-loop μ-loop
 put-block-requires c κs = search needs
 
-add-k : tie.Need-add-k Inv-loop μ-loop
-add-k c = search needs
-
 loop-less : tie.Need-loop-less Inv-loop μ-loop
 loop-less c = search needs
 
@@ -43,10 +52,11 @@ loop-again c =
     let p = c .before .before .before .before .before .before .before .before .before .before .pre in
     let at = c .before .before .before .before .before .before .before .loop in
     let more = c .before .before .before .before .before .before .loop-test .taken in
-    let block = c .before .before .before .before .darker-bent-block in
-    let grown = met-block min (bent (a .bends .now) (a .near) (a .far)) (a .at) (a .n) (bent-awaits (a .bends .now) (a .at) (a .near) (a .far) (a .n) (p .0 .2) (p .1 .2)) 64 (block .result) (64 * at .k) (at .inv .1)
-    (omega (arith, more)) (block .ensures) (c .before .before .put-block .ensures) in
-    (omega (arith, more), filled-end grown (omega arith))
+    let block = c .before .before .before .before .darker-bent-block in (
+      omega (arith, at .inv .0),
+      met-block-before min (bent (a .bends .now) (a .near) (a .far)) (a .at) (a .n) (bent-outlasts (a .bends .now) (a .at) (a .near) (a .far) (a .n) (p .0 .2) (p .1 .2)) 64 (block .result) (a .n - 64 * a .blocks + 64 * (at .k - 1)) (at .inv .1)
+          (omega (arith, more)) (omega (arith, at .inv .0)) (block .ensures) (c .before .before .put-block .ensures),
+    )
 
 same-length : tie.Need-same-length Inv-loop μ-loop
 same-length c = c .before .loop .inv .1 .same
@@ -54,21 +64,24 @@ same-length c = c .before .loop .inv .1 .same
 returns : tie.Need-returns Inv-loop μ-loop
 returns c =
     let a = c .before .before .before .before .args in
-    let end : a .at + 64 * c .before .loop .k ≡ a .at + 64 * a .blocks = omega (arith, c .loop-test .left, c .before .loop .inv .0) in
-    filled-end (c .before .loop .inv .1) end
+    let end : a .at + (a .n - 64 * a .blocks + 64 * c .before .loop .k) ≡ a .at + (a .n - 64 * a .blocks) = omega (arith, c .loop-test .left, c .before .loop .inv .0) in
+    filled-start (c .before .loop .inv .1) end
 
-pub darken-bent-blocks-spec : {M : Type 1} → statement M
-darken-bent-blocks-spec =
+pub darken-bent-down-blocks-spec : {M : Type 1} → statement M
+darken-bent-down-blocks-spec =
     tie.close
     (tie.spec
     Inv-loop
     μ-loop
+    mul-rest
+    sub-rest
     loop-holds
+    sub-k
     mul-i
+    add-i
     darker-bent-block-requires
     add-put-block
     put-block-requires
-    add-k
     loop-less
     loop-again
     same-length

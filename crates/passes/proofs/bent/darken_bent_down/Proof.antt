@@ -1,0 +1,75 @@
+-- By blocks, the last two of which overlap.
+use mathlib.Core.Path.{refl}
+use Prim.Native.Nat.{_+_, _-_, _*_, _/_, min}
+use native.Mathlib.Nat.{le-refl}
+use native.Mathlib.Omega.{arith}
+use Rattle.passes.specs.Passes.{bent}
+use Rattle.passes.proofs.Blocks.{bent-outlasts, met-early, met-block-before, met-first}
+use borrow.Author.Needs.{needs}
+use Rattle.passes.proofs.bent.darken_bent_down.Statement.{statement}
+use Rattle.passes.proofs.bent.darken_bent_down.Tie as tie
+
+sub-blocks : tie.Need-sub-blocks
+sub-blocks c = search needs
+
+mul-i : tie.Need-mul-i
+mul-i c = search needs
+
+sub-i : tie.Need-sub-i
+sub-i c = search needs
+
+sub-i-2 : tie.Need-sub-i-2
+sub-i-2 c = search needs
+
+darken-bent-down-blocks-requires : tie.Need-darken-bent-down-blocks-requires
+darken-bent-down-blocks-requires c κs = search needs
+
+darker-bent-block-requires : tie.Need-darker-bent-block-requires
+darker-bent-block-requires c κs = search needs
+
+darker-bent-block-requires-2 : tie.Need-darker-bent-block-requires-2
+darker-bent-block-requires-2 c κs = search needs
+
+add-put-block : tie.Need-add-put-block
+add-put-block c = search needs
+
+put-block-requires : tie.Need-put-block-requires
+put-block-requires c κs = search needs
+
+put-block-requires-2 : tie.Need-put-block-requires-2
+put-block-requires-2 c κs = search needs
+
+same-length : tie.Need-same-length
+same-length c = search needs
+
+returns : tie.Need-returns
+returns c =
+    let a = c .before .before .before .before .before .before .before .before .before .before .before .before .before .before .before .before .before .before .args in
+    let p = c .before .before .before .before .before .before .before .before .before .before .before .before .before .before .before .before .before .before .pre in
+    let partner = bent (a .bends .now) (a .near) (a .far) in
+    let stay = bent-outlasts (a .bends .now) (a .at) (a .near) (a .far) (a .n) (p .0 .2) (p .1 .2) in
+    let i = a .n - 64 * ((a .n - 65) / 64) - 64 in
+    let back = c .before .before .before .before .before .before .before .before .before .before .before .before .before .before .darken-bent-down-blocks .ensures in
+    let next = c .before .before .before .before .before .before .before .before .before .before .darker-bent-block in
+    let first = c .before .before .before .before .before .before .before .before .darker-bent-block2 in
+    let earlier = met-early min partner (a .at) (a .n) stay 64 (first .result) 0 back (le-refl (a .at + a .n)) (omega arith) (first .ensures) in
+    let more = met-block-before min partner (a .at) (a .n) stay 64 (next .result) i back (omega arith) (omega arith) (next .ensures) (c .before .before .before .before .before .before .put-block .ensures) in
+    met-first min partner (a .at) (a .buf .now) 64 (first .result) 0 (a .at) earlier (c .before .before .put-block2 .ensures) (omega arith) more (omega arith) (omega arith)
+    (omega arith) refl
+
+pub darken-bent-down-spec : {M : Type 1} → statement M
+darken-bent-down-spec =
+    tie.close
+    (tie.spec
+    sub-blocks
+    mul-i
+    sub-i
+    sub-i-2
+    darken-bent-down-blocks-requires
+    darker-bent-block-requires
+    darker-bent-block-requires-2
+    add-put-block
+    put-block-requires
+    put-block-requires-2
+    same-length
+    returns)

@@ -1,0 +1,78 @@
+-- By blocks, the last two of which overlap.
+use mathlib.Core.Path.{refl}
+use Prim.Native.Nat.{_-_, _*_, _/_, max}
+use native.Mathlib.Nat.{le-refl}
+use native.Mathlib.Omega.{arith}
+use Rattle.passes.specs.Passes.{straight}
+use Rattle.passes.proofs.Blocks.{straight-awaits, met-late, met-block, met-last}
+use borrow.Author.Needs.{needs}
+use Rattle.passes.proofs.straight.brighten_up.Statement.{statement}
+use Rattle.passes.proofs.straight.brighten_up.Tie as tie
+
+sub-blocks : tie.Need-sub-blocks
+sub-blocks c = search needs
+
+mul-i : tie.Need-mul-i
+mul-i c = search needs
+
+brighten-up-blocks-requires : tie.Need-brighten-up-blocks-requires
+brighten-up-blocks-requires c κs = search needs
+
+brighter-block-requires : tie.Need-brighter-block-requires
+brighter-block-requires c κs = search needs
+
+sub-brighter-block : tie.Need-sub-brighter-block
+sub-brighter-block c = search needs
+
+brighter-block-requires-2 : tie.Need-brighter-block-requires-2
+brighter-block-requires-2 c κs = search needs
+
+add-put-block : tie.Need-add-put-block
+add-put-block c = search needs
+
+put-block-requires : tie.Need-put-block-requires
+put-block-requires c κs = search needs
+
+sub-put-block : tie.Need-sub-put-block
+sub-put-block c = search needs
+
+add-put-block-2 : tie.Need-add-put-block-2
+add-put-block-2 c = search needs
+
+put-block-requires-2 : tie.Need-put-block-requires-2
+put-block-requires-2 c κs = search needs
+
+same-length : tie.Need-same-length
+same-length c = search needs
+
+returns : tie.Need-returns
+returns c =
+    let a = c .before .before .before .before .before .before .before .before .before .before .before .before .before .before .before .before .before .args in
+    let p = c .before .before .before .before .before .before .before .before .before .before .before .before .before .before .before .before .before .pre in
+    let partner = straight (a .from) in
+    let stay = straight-awaits (a .at) (a .from) (a .n) (p .0 .2) in
+    let i = 64 * ((a .n - 65) / 64) in
+    let front = c .before .before .before .before .before .before .before .before .before .before .before .before .before .before .brighten-up-blocks .ensures in
+    let next = c .before .before .before .before .before .before .before .before .before .before .brighter-block in
+    let last = c .before .before .before .before .before .before .before .before .brighter-block2 in
+    let later = met-late max partner (a .at) (a .n) stay 64 (last .result) (a .n - 64) front (le-refl (a .at)) (omega arith) (omega arith) (omega arith) (last .ensures) in
+    let more = met-block max partner (a .at) (a .n) stay 64 (next .result) i front (omega arith) (next .ensures) (c .before .before .before .before .before .before .put-block .ensures) in
+    met-last max partner (a .at) (a .buf .now) 64 (last .result) (a .n - 64) _ later (c .before .before .put-block2 .ensures) refl more (omega arith) (omega arith) (omega arith)
+
+pub brighten-up-spec : {M : Type 1} → statement M
+brighten-up-spec =
+    tie.close
+    (tie.spec
+    sub-blocks
+    mul-i
+    brighten-up-blocks-requires
+    brighter-block-requires
+    sub-brighter-block
+    brighter-block-requires-2
+    add-put-block
+    put-block-requires
+    sub-put-block
+    add-put-block-2
+    put-block-requires-2
+    same-length
+    returns)
