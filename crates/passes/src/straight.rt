@@ -1,6 +1,6 @@
 // A pass whose partners stand side by side in one row. The last two blocks overlap, so that nothing is left to go one by one: both are made before either
 // is stored. They come last, since what they read may still be on its way from the pass before.
-// A pass over rows goes through memory one way: within a row as from row to row, away from or towards the partners' rows alike.
+// Rows are treated so that their partners' come later; blocks go the same way within a row, so that memory is read in one direction throughout.
 use crate::block::brighter;
 use crate::block::darker;
 use crate::block::put_block;
