@@ -15,6 +15,7 @@
 --   Tracks         where a line is, from its number
 --   Scatters       values stored at places
 --   Partition      no two pixels share a byte; one line treated after the other
+--   Alongs         the lent row; along, a line is a row
 --   Calls          what the calls answer, and what they know once they are not refused
 pub mod Directions
 pub mod Numbers
@@ -24,6 +25,7 @@ pub mod Shapes
 pub mod Walks
 pub mod Spans
 pub mod Pixels
+pub mod Alongs
 pub mod Opposites
 pub mod Examples
 pub mod Tracks

@@ -1,14 +1,11 @@
 -- Along, a line is a row.
---   row-is, row-length, row-pixel    the row that is lent back, its length and its pixels
 --   along-opened           an opened pixel, in a direction without a slope, by its row
 -- Assumes nothing.
-use mathlib.Core.Path.{_≡_, refl, sym, ap, _∙_}
-use mathlib.Core.Bool.{Bool, true, false, cond}
+use mathlib.Core.Path.{_≡_, sym, ap, _∙_}
+use mathlib.Core.Bool.{Bool, cond}
 use mathlib.Core.List.{List}
 use Prim.Native.Nat.{ℕ, _+_, _-_, _*_, _≤_, _<_}
-use native.Mathlib.Nat.{mul-zero, div-eq-of-lt}
 use native.Mathlib.Omega.{arith}
-use borrow.Author.Tests.{le-leb, lt-ltb}
 use lib.ListN.{length, getD, take, drop, length-drop}
 use lib.Seq.{length-take-le, getD-take, getD-drop}
 use lib.IntN.{natAbs}
@@ -17,55 +14,17 @@ use Rattle.line.specs.Windows.{opened}
 use Rattle.frame.specs.declared.direction.Direction.{Direction}
 use Rattle.frame.specs.declared.shape.Shape.{Shape}
 use Rattle.frame.specs.declared.sweep.Sweep.{Sweep}
-use Rattle.frame.specs.Direction.{shallow, opposite}
-use Rattle.frame.specs.Shape.{isFrame, needed}
-use Rattle.frame.specs.Lines as lines
-use Rattle.frame.specs.Lines.{r, at, place}
+use Rattle.frame.specs.Shape.{needed}
+use Rattle.frame.specs.Lines.{at}
 use Rattle.frame.specs.Rows.{rowOf}
 use Rattle.frame.specs.Sweep as sweep
-use Rattle.frame.specs.Sweep.{sweeping, sweepOf, shift, cell, value, Accepted, Sane}
-use Rattle.frame.proofs.Shapes.{sweep-sane}
+use Rattle.frame.specs.Sweep.{sweepOf, shift, cell, value, Accepted}
 use Rattle.frame.proofs.Walks.{hit-at, value-on}
-use Rattle.frame.proofs.Spans.{shift-falling, shift-rising}
+use Rattle.frame.proofs.Alongs.{row-fits, row-is, flat-shallow, flat-sweep, flat-shift}
 use Rattle.strips.specs.Pixels.{openedPixel}
 use Rattle.strips.specs.Strips as strips
 use Rattle.strips.specs.Strips.{whole}
-use Rattle.strips.proofs.Eights.{steps-le}
 use Rattle.strips.proofs.Bridge.{Spot, opened-spot}
-
--- ---- the lent row
-
-module _ (f : List ℕ) (sh : Shape) (y : ℕ) (ok : isFrame sh ≡ true) (fits : needed sh ≤ length f) (here : y < sh .height) where
-  pub row-fits : y * sh .stride + sh .width ≤ length f
-  row-fits = omega (arith, steps-le y (sh .height - 1) (sh .stride) (omega arith))
-
-  pub row-is : rowOf f sh y ≡ take (sh .width) (drop (y * sh .stride) f)
-  row-is = rw (ok, le-leb (needed sh) (length f) fits, lt-ltb y (sh .height) here)
-
-  pub row-length : length (rowOf f sh y) ≡ sh .width
-  row-length =
-      ap length row-is ∙ length-take-le (sh .width) (drop (y * sh .stride) f) (omega (arith, length-drop (y * sh .stride) f, row-fits))
-
-  pub row-pixel : (x : ℕ) → x < sh .width → getD (rowOf f sh y) x 0 ≡ getD f (place sh (at x y)) 0
-  row-pixel x h =
-      ap (λ (l : List ℕ). getD l x 0) row-is ∙ getD-take (sh .width) (drop (y * sh .stride) f) x 0 h ∙ getD-drop (y * sh .stride) f x 0
-
--- ---- lines without a slope
-
-r-flat : (a b i : ℕ) → 1 ≤ a → b ≡ 0 → r a b i ≡ 0
-unfolding lines.r
-r-flat a b i some z =
-    let e : 2 * i * b ≡ 0 = ap (λ (n : ℕ). 2 * i * n) z ∙ mul-zero (2 * i) in
-    div-eq-of-lt (omega arith)
-
-shift-flat : (s : Sweep) → Sane s → s .rise ≡ 0 → (i : ℕ) → shift s i ≡ 0
-shift-flat s sane z i = go (s .falling) refl
-  where
-    go : (t : Bool) → s .falling ≡ t → shift s i ≡ 0
-    go true e = shift-falling s e i ∙ r-flat (s .run) (s .rise) i (sane .moves) z
-    go false e =
-        let top = r-flat (s .run) (s .rise) (s .majors - 1) (sane .moves) z in
-        shift-rising s e i ∙ omega (arith, sane .top)
 
 whole-flat : (s : Sweep) (f : List ℕ) (y : ℕ) → s .major ≡ 1 → ((i : ℕ) → shift s i ≡ 0) → y < s .minors → y * s .minor + s .majors ≤ length f
     → whole s f y ≡ take (s .majors) (drop (y * s .minor) f)
@@ -83,25 +42,18 @@ whole-flat s f y one flat here fits =
     ∙ sym (value-on s f y i (hit-at s y i (omega (arith, flat i)) (omega (arith, flat i))))))
 
 module _ (f : List ℕ) (sh : Shape) (d : Direction) (ok : Accepted sh d) (flat : natAbs (d .q) ≡ 0) (fits : needed sh ≤ length f) where
-  level : shallow d ≡ true
-  level = le-leb (natAbs (d .q)) (natAbs (d .p)) (omega arith)
-
-  flat-sweep : sweepOf sh d ≡ sweeping (sh .width) (sh .height) 1 (sh .stride) (natAbs (d .p)) (natAbs (d .q)) (opposite d)
-  unfolding sweep.sweepOf
-  flat-sweep = rw level
-
   still : (i : ℕ) → shift (sweepOf sh d) i ≡ 0
-  still i = shift-flat (sweepOf sh d) (sweep-sane ok) (ap (λ (s : Sweep). s .rise) flat-sweep ∙ flat) i
+  still = flat-shift sh d ok flat
 
   pub along-opened : (L x y : ℕ) → 1 ≤ L → x < sh .width → y < sh .height → openedPixel f sh d L x y ≡ getD (opened (rowOf f sh y) L) x 0
   unfolding strips.openedOn
   along-opened L x y some h l =
       let s = sweepOf sh d in
-      let is : s .majors ≡ sh .width = ap (λ (s : Sweep). s .majors) flat-sweep in
-      let high : s .minors ≡ sh .height = ap (λ (s : Sweep). s .minors) flat-sweep in
-      let apart : s .minor ≡ sh .stride = ap (λ (s : Sweep). s .minor) flat-sweep in
+      let is : s .majors ≡ sh .width = ap (λ (s : Sweep). s .majors) (flat-sweep sh d flat) in
+      let high : s .minors ≡ sh .height = ap (λ (s : Sweep). s .minors) (flat-sweep sh d flat) in
+      let apart : s .minor ≡ sh .stride = ap (λ (s : Sweep). s .minor) (flat-sweep sh d flat) in
       let row : whole s f y ≡ rowOf f sh y =
-      whole-flat s f y (ap (λ (s : Sweep). s .major) flat-sweep) still (omega arith)
+      whole-flat s f y (ap (λ (s : Sweep). s .major) (flat-sweep sh d flat)) still (omega arith)
       (omega (arith, row-fits f sh y (ok .frame) fits l, ap (λ (m : ℕ). y * m) apart))
       ∙ ap (λ (n : ℕ). take n (drop (y * s .minor) f)) is
       ∙ ap (λ (n : ℕ). take (sh .width) (drop (y * n) f)) apart
@@ -112,8 +64,8 @@ module _ (f : List ℕ) (sh : Shape) (d : Direction) (ok : Accepted sh d) (flat 
       here : x < sh .width → y < sh .height → Spot sh d x y
       here h l =
           let s = sweepOf sh d in
-          let is : s .majors ≡ sh .width = ap (λ (s : Sweep). s .majors) flat-sweep in
-          let high : s .minors ≡ sh .height = ap (λ (s : Sweep). s .minors) flat-sweep in
+          let is : s .majors ≡ sh .width = ap (λ (s : Sweep). s .majors) (flat-sweep sh d flat) in
+          let high : s .minors ≡ sh .height = ap (λ (s : Sweep). s .minors) (flat-sweep sh d flat) in
           let same : y - shift s x ≡ y = omega (arith, still x) in
           record {
             u = y;
@@ -121,5 +73,5 @@ module _ (f : List ℕ) (sh : Shape) (d : Direction) (ok : Accepted sh d) (flat 
             below = omega arith;
             line = omega arith;
             on = hit-at s y x (omega (arith, still x)) (omega (arith, still x));
-            stands = ap (λ (t : Bool). cond t (at x (y - shift s x)) (at (y - shift s x) x)) level ∙ ap (at x) same;
+            stands = ap (λ (t : Bool). cond t (at x (y - shift s x)) (at (y - shift s x) x)) (flat-shallow d flat) ∙ ap (at x) same;
           }

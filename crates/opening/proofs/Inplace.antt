@@ -26,6 +26,7 @@ use Rattle.frame.specs.Sweep as sweep
 use Rattle.frame.specs.Sweep.{sweepOf, shift, value, Accepted}
 use Rattle.frame.proofs.Pixels.{its-line}
 use Rattle.frame.proofs.Walks.{hits, hit-at, hit-below, hit-past, value-on, value-off}
+use Rattle.frame.proofs.Alongs.{row-length, row-pixel}
 use Rattle.rows.specs.Rows.{spot as byteOf, laneAt, lane, OpensLines, OpensSteep, OpensShallow}
 use Rattle.rows.proofs.Lines.{lane-in, lane-left, lane-right}
 use Rattle.rows.proofs.Steeps.{steep-all}
@@ -36,7 +37,6 @@ use Rattle.strips.specs.Strips as strips
 use Rattle.strips.specs.Strips.{whole}
 use Rattle.strips.proofs.Bridge.{spot-of, spot-cell, opened-spot}
 use Rattle.strips.proofs.Paintings.{painted-as, painted-again}
-use Rattle.opening.proofs.Along.{row-length, row-pixel}
 
 copied-pixel : (f : List ℕ) (sh : Shape) (x y : ℕ) → isFrame sh ≡ true → needed sh ≤ length f → x < sh .width → y < sh .height
     → getD (opened (rowOf f sh y) 1) x 0 ≡ getD f (place sh (at x y)) 0

@@ -8,6 +8,7 @@ use frame::Direction;
 use frame::Shape;
 use frame::gather;
 use frame::lines_of;
+use frame::row;
 ghost use mathlib.Core.Path.{_≡_};
 ghost use mathlib.Core.Bool.{true};
 ghost use Prim.Native.Nat.{_*_, _≤_, _<_};
@@ -79,8 +80,8 @@ fn take_line(src: &[u8], shape: Shape, d: Direction, u: usize, pixels: &mut [u8]
     a.figure as usize
 }
 
-// Adds bins and rest of line u, counted from the first. The line stands in an array of its own: two parts of one scratch cannot be lent at once.
-fn add_line_of(
+// Adds bins and rest of line u, counted from the first, in any direction. It is gathered into an array: two parts of one scratch cannot be lent at once.
+fn add_gathered(
     src: &[u8],
     shape: Shape,
     d: Direction,
@@ -94,6 +95,26 @@ fn add_line_of(
     let mut pixels = [0u8; LONGEST];
     let n = take_line(src, shape, d, u, &mut pixels);
     add_line(&pixels[..n], sums, scratch);
+}
+
+// Adds bins and rest of line u, counted from the first. Along, that is row u: it is read where it stands.
+fn add_line_of(
+    src: &[u8],
+    shape: Shape,
+    d: Direction,
+    u: usize,
+    sums: &mut [u64],
+    scratch: &mut [u8],
+)
+    requires { ⌜ Whole shape d (length (now src)) × (u < lineCount shape d) × (scratchFor shape ≤ length (now scratch)) × (1 ≤ length (now sums)) × Modest (now sums) ⌝ }
+    ensures { λ _. ⌜ Adds (lineAt (now (src .entry)) shape d u) (now (sums .entry)) (now (sums .exit)) × (length (now (scratch .exit)) ≡ length (now (scratch .entry))) ⌝ }
+{
+    let q = d.q;
+    if q == 0 {
+        add_line(row(src, shape, u), sums, scratch);
+        return;
+    }
+    add_gathered(src, shape, d, u, sums, scratch);
 }
 
 // Bins and rest of a frame that no rule refuses: the slice is cleared, and one line after the other added.

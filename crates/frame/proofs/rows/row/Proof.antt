@@ -1,14 +1,13 @@
 -- Each way out has made the tests that decide; a row ends within what the frame needs, and that is within the slice.
 use mathlib.Core.Path.{_≡_, sym, _∙_}
 use mathlib.Core.Bool.{true}
-use Prim.Native.Nat.{ℕ, _+_, _-_, _*_, _≤_, _<_}
+use Prim.Native.Nat.{_+_, _-_, _*_, _≤_}
 use native.Mathlib.Omega.{arith}
-use native.Mathlib.Nat.{mul-le-mul-right}
 use borrow.Author.Tests.{not-true, not-false, le-leb, lt-leb, lt-ltb, le-ltb}
 use lib.ListN.{length}
-use Rattle.frame.specs.declared.shape.Shape.{Shape}
 use Rattle.frame.specs.Shape.{isFrame, needed}
 use Rattle.frame.proofs.Shapes.{needed-by}
+use Rattle.frame.proofs.Alongs.{row-ends}
 use borrow.Author.Needs.{needs}
 use Rattle.frame.proofs.rows.row.Statement.{statement}
 use Rattle.frame.proofs.rows.row.Tie as tie
@@ -69,13 +68,10 @@ returns-3 c =
     let none = le-ltb _ _ (c .before .if3 .taken) in
     rw (frame (c .before .before .before .before), whole, none)
 
-ends : (sh : Shape) (y : ℕ) → y < sh .height → y * sh .stride + sh .width ≤ needed sh
-ends sh y h = let k : y * sh .stride ≤ (sh .height - 1) * sh .stride = mul-le-mul-right (sh .stride) (omega arith) in omega arith
-
 within : (c : tie.Else3) → (let a = c .before .before .before .before .before .before .args in a .y * a .shape .stride + a .shape .width ≤ length (a .src .now))
 within c =
     let a = c .before .before .before .before .before .before .args in
-    omega (arith, ends (a .shape) (a .y) (c .if3 .left), bytes-are (c .before .before), c .before .if2 .left)
+    omega (arith, row-ends (a .shape) (a .y) (c .if3 .left), bytes-are (c .before .before), c .before .if2 .left)
 
 mul-from : tie.Need-mul-from
 mul-from c = omega (arith, within (c .before))

@@ -6,11 +6,11 @@ use native.Mathlib.Omega.{arith}
 use lib.ListN.{length as size, getD}
 use Rattle.frame.specs.Shape.{shape, needed}
 use Rattle.frame.proofs.Shapes.{framed}
+use Rattle.frame.proofs.Alongs.{row-length, row-pixel}
 use Rattle.strips.specs.Pixels.{Painted}
 use Rattle.strips.specs.Engine.{claims, packed}
 use Rattle.strips.proofs.Claims.{packed-frame, packed-needed}
 use Rattle.strips.proofs.Eights.{steps-le}
-use Rattle.opening.proofs.Along.{row-length, row-pixel}
 use Rattle.opening.proofs.Bands.{part-length, rows-none, rows-put, rows-lent, rows-end}
 use Rattle.opening.proofs.Fronts.{claims-same}
 use borrow.Author.Needs.{needs}

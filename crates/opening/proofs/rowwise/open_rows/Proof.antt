@@ -7,8 +7,8 @@ use lib.ListN.{length as size, getD}
 use Rattle.line.specs.Windows.{opened}
 use Rattle.frame.specs.Shape.{shape}
 use Rattle.frame.specs.Rows.{rowOf}
+use Rattle.frame.proofs.Alongs.{row-length}
 use Rattle.strips.specs.Pixels.{Painted}
-use Rattle.opening.proofs.Along.{row-length}
 use Rattle.strips.proofs.Eights.{steps-le}
 use Rattle.opening.proofs.Bands.{part-length, rows-none, rows-put, rows-end}
 use borrow.Author.Needs.{needs}

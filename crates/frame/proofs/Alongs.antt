@@ -1,0 +1,119 @@
+-- The lent row; and along, a line is a row.
+--   row-ends, row-fits                 a row ends within what the frame needs, and so within the slice
+--   row-is, row-length, row-pixel      the row that is lent back, its length and its pixels
+--   flat-shallow, flat-sweep, flat-shift    a direction without a slope: it is shallow, its sweep, and its lines do not move aside
+--   along-count, along-line            in such a direction the frame has a line for each row, and line u is row u
+-- Assumes nothing.
+use mathlib.Core.Path.{_≡_, refl, sym, ap, _∙_}
+use mathlib.Core.Bool.{Bool, true, false}
+use mathlib.Core.List.{List}
+use Prim.Native.Nat.{ℕ, _+_, _-_, _*_, _≤_, _<_}
+use native.Mathlib.Nat.{mul-zero, mul-le-mul-right, div-eq-of-lt}
+use native.Mathlib.Omega.{arith}
+use borrow.Author.Tests.{le-leb, lt-ltb}
+use lib.ListN.{length, getD, take, drop, length-drop}
+use lib.Seq.{length-take-le, getD-take, getD-drop}
+use lib.IntN.{pos, natAbs, _+ℤ_}
+use Rattle.lists.specs.Tables.{table}
+use Rattle.lists.proofs.Tables.{table-same, table-by}
+use Rattle.lists.proofs.Picks.{map-table, those-stretch}
+use Rattle.frame.specs.declared.direction.Direction.{Direction}
+use Rattle.frame.specs.declared.shape.Shape.{Shape}
+use Rattle.frame.specs.declared.sweep.Sweep.{Sweep}
+use Rattle.frame.specs.Direction.{shallow, opposite}
+use Rattle.frame.specs.Shape.{isFrame, needed}
+use Rattle.frame.specs.Lines.{r, at, place, gathered, firstLine, lineCount}
+use Rattle.frame.specs.Rows.{rowOf}
+use Rattle.frame.specs.Sweep.{sweeping, sweepOf, shift, hit, cell, cells, valuesAt, Accepted, Sane}
+use Rattle.frame.proofs.Shapes.{accepted-some, sweep-sane}
+use Rattle.frame.proofs.Walks.{hit-at, values-are}
+use Rattle.frame.proofs.Spans.{shift-falling, shift-rising}
+use Rattle.frame.proofs.Pixels.{number, count-is}
+
+-- ---- the lent row
+
+pub row-ends : (sh : Shape) (y : ℕ) → y < sh .height → y * sh .stride + sh .width ≤ needed sh
+row-ends sh y here = let k : y * sh .stride ≤ (sh .height - 1) * sh .stride = mul-le-mul-right (sh .stride) (omega arith) in omega arith
+
+module _ (f : List ℕ) (sh : Shape) (y : ℕ) (ok : isFrame sh ≡ true) (fits : needed sh ≤ length f) (here : y < sh .height) where
+  pub row-fits : y * sh .stride + sh .width ≤ length f
+  row-fits = omega (arith, row-ends sh y here)
+
+  pub row-is : rowOf f sh y ≡ take (sh .width) (drop (y * sh .stride) f)
+  row-is = rw (ok, le-leb (needed sh) (length f) fits, lt-ltb y (sh .height) here)
+
+  pub row-length : length (rowOf f sh y) ≡ sh .width
+  row-length =
+      ap length row-is ∙ length-take-le (sh .width) (drop (y * sh .stride) f) (omega (arith, length-drop (y * sh .stride) f, row-fits))
+
+  pub row-pixel : (x : ℕ) → x < sh .width → getD (rowOf f sh y) x 0 ≡ getD f (place sh (at x y)) 0
+  row-pixel x h =
+      ap (λ (l : List ℕ). getD l x 0) row-is ∙ getD-take (sh .width) (drop (y * sh .stride) f) x 0 h ∙ getD-drop (y * sh .stride) f x 0
+
+-- ---- lines without a slope
+
+r-flat : (a b i : ℕ) → 1 ≤ a → b ≡ 0 → r a b i ≡ 0
+unfolding r
+r-flat a b i some z =
+    let e : 2 * i * b ≡ 0 = ap (λ (n : ℕ). 2 * i * n) z ∙ mul-zero (2 * i) in
+    div-eq-of-lt (omega arith)
+
+shift-flat : (s : Sweep) → Sane s → s .rise ≡ 0 → (i : ℕ) → shift s i ≡ 0
+shift-flat s sane z i = go (s .falling) refl
+  where
+    go : (t : Bool) → s .falling ≡ t → shift s i ≡ 0
+    go true e = shift-falling s e i ∙ r-flat (s .run) (s .rise) i (sane .moves) z
+    go false e =
+        let top = r-flat (s .run) (s .rise) (s .majors - 1) (sane .moves) z in
+        shift-rising s e i ∙ omega (arith, sane .top)
+
+-- where no line moves aside, line u has a pixel at every major coordinate
+cells-flat : (s : Sweep) (u : ℕ) → ((i : ℕ) → shift s i ≡ 0) → u < s .minors → cells s u (s .majors) ≡ table (λ (i : ℕ). i * s .major + u * s .minor) (s .majors)
+unfolding cells cell
+cells-flat s u still here =
+    those-stretch (hit s u) (cell s u) (s .majors) 0 (s .majors) (omega arith)
+    (λ i l h. hit-at s u i (omega (arith, still i)) (omega (arith, still i))) (λ i h. absurd (omega arith)) (λ i l h. absurd (omega arith))
+    ∙ table-same (λ (i : ℕ). cell s u (0 + i)) (λ (i : ℕ). i * s .major + u * s .minor) (s .majors)
+    (λ i h.
+    let same : 0 + i ≡ i = omega arith in
+    let aside : u - shift s i ≡ u = omega (arith, still i) in
+    ap (cell s u) same ∙ ap (λ (k : ℕ). i * s .major + k * s .minor) aside)
+
+pub flat-shallow : (d : Direction) → natAbs (d .q) ≡ 0 → shallow d ≡ true
+flat-shallow d flat = le-leb (natAbs (d .q)) (natAbs (d .p)) (omega arith)
+
+pub flat-sweep : (sh : Shape) (d : Direction) → natAbs (d .q) ≡ 0
+    → sweepOf sh d ≡ sweeping (sh .width) (sh .height) 1 (sh .stride) (natAbs (d .p)) (natAbs (d .q)) (opposite d)
+unfolding sweepOf
+flat-sweep sh d flat = rw (flat-shallow d flat)
+
+module _ (sh : Shape) (d : Direction) (ok : Accepted sh d) (flat : natAbs (d .q) ≡ 0) where
+  level : sweepOf sh d .rise ≡ 0
+  level = ap (λ (s : Sweep). s .rise) (flat-sweep sh d flat) ∙ flat
+
+  pub flat-shift : (i : ℕ) → shift (sweepOf sh d) i ≡ 0
+  flat-shift = shift-flat (sweepOf sh d) (sweep-sane ok) level
+
+  pub along-count : lineCount sh d ≡ sh .height
+  along-count =
+      let s = sweepOf sh d in
+      let sane = sweep-sane ok in
+      let top : s .top ≡ 0 = sane .top ∙ r-flat (s .run) (s .rise) (s .majors - 1) (sane .moves) level in
+      count-is sh d ∙ omega (arith, top, ap (λ (s : Sweep). s .minors) (flat-sweep sh d flat))
+
+  pub along-line : (f : List ℕ) → needed sh ≤ length f → (u : ℕ) → u < sh .height → gathered f sh d (firstLine sh d +ℤ pos u) ≡ rowOf f sh u
+  along-line f fits u here =
+      let s = sweepOf sh d in
+      let wide : s .majors ≡ sh .width = ap (λ (s : Sweep). s .majors) (flat-sweep sh d flat) in
+      let high : s .minors ≡ sh .height = ap (λ (s : Sweep). s .minors) (flat-sweep sh d flat) in
+      let one : s .major ≡ 1 = ap (λ (s : Sweep). s .major) (flat-sweep sh d flat) in
+      let apart : s .minor ≡ sh .stride = ap (λ (s : Sweep). s .minor) (flat-sweep sh d flat) in
+      ap (gathered f sh d) (number sh d u)
+      ∙ values-are sh d (accepted-some ok) u f
+      ∙ ap (valuesAt f) (cells-flat s u flat-shift (omega arith))
+      ∙ map-table (λ (c : ℕ). getD f c 0) (λ (i : ℕ). i * s .major + u * s .minor) (s .majors)
+      ∙ sym
+      (table-by 0 (rowOf f sh u) (λ (i : ℕ). getD f (i * s .major + u * s .minor) 0) (s .majors) (row-length f sh u (ok .frame) fits here ∙ sym wide)
+      (λ i h.
+      row-pixel f sh u (ok .frame) fits here i (omega arith)
+      ∙ ap (λ (c : ℕ). getD f c 0) (omega (arith, ap (λ (m : ℕ). i * m) one, ap (λ (m : ℕ). u * m) apart))))
