@@ -21,7 +21,6 @@ use lib.ListN.{length, getD, set, take}
 use lib.Seq.{getD-set-same, getD-set-other, getD-take, length-take-le}
 use borrow.Author.Tests.{lt-ltb, le-ltb}
 use Rattle.lists.proofs.Cases.{less-or-not}
-use Rattle.frame.specs.declared.sweep.Sweep.{Sweep}
 use Rattle.frame.specs.Lines as lines
 use Rattle.frame.specs.Lines.{r}
 use Rattle.rows.specs.Passes.{Bends, Rest, Marked}
@@ -111,7 +110,7 @@ bends-none a b e d n some rows nothing x h =
 pub marks-fit : {k n m : ℕ} → (k ≡ 0) ⊎ (k ≡ n) → n ≤ m → k ≤ m
 marks-fit marks room = ⊎-elim (λ none. omega arith) (λ all. omega arith) marks
 
-pub marked-by : (s : Sweep) (e k : ℕ) (m : List ℕ) → (k ≡ 0) ⊎ (k ≡ s .majors - e) → s .majors - e ≤ length m → Marked s e (take k m)
-marked-by s e k m marks room =
+pub marked-by : (n k : ℕ) (m : List ℕ) → (k ≡ 0) ⊎ (k ≡ n) → n ≤ length m → Marked n (take k m)
+marked-by n k m marks room =
     let held = length-take-le k m (marks-fit marks room) in
     ⊎-elim (λ none. inl (held ∙ none)) (λ all. inr (omega (arith, held, all))) marks

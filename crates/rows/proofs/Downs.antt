@@ -4,7 +4,6 @@
 --   erode-more, dilate-more    one row more of a pass
 --   erode-rest                 the rows from which a pass of an erosion looks at dark rows only, and those which are dark
 --   rows-before-all, dilate-rest    the rows before the first that a dilation changes, and those behind the last
---   dilate-dark                the rows that a dilation leaves dark
 -- Assumes nothing.
 use mathlib.Core.Path.{_≡_, refl, sym, ap, ap₂, _∙_, subst}
 use mathlib.Core.List.{List}
@@ -20,7 +19,7 @@ use Rattle.frame.specs.declared.sweep.Sweep.{Sweep}
 use Rattle.rows.specs.Rows.{spot, beside, laneAt, rowsOf, RowsAre}
 use Rattle.rows.specs.Passes.{eroding, dilating}
 use Rattle.rows.proofs.Rowwise.{Parted, row-kept, rows-more, rows-before, rows-still, rows-as, rows-join}
-use Rattle.rows.proofs.Lines.{lane-in, lane-left, lane-right, lane-dark}
+use Rattle.rows.proofs.Lines.{lane-in, lane-left, lane-right, lane-dark, dilating-dark}
 use Rattle.rows.proofs.Sides.{beside-in, beside-left, beside-right}
 
 pub side-by-side : (s : Sweep) → s .minor ≡ 1 → (i k : ℕ) → spot s i k ≡ i * s .major + k
@@ -94,11 +93,6 @@ module _ (h : ℕ → ℕ) (A : ℕ → ℕ → ℕ) (S N M e : ℕ) (place : (i
         (λ out. rw (le-ltb (i + e) M out) (omega arith))
         (less-or-not (i + e) M)
 
-    dilating-dark : (i k : ℕ) → light + e ≤ i → i < M → k < N → dilating h A N e b i k ≡ 0
-    dilating-dark i k from in′ n =
-        rw (le-ltb i e (omega arith), lane-dark h A N b (k + h i) (i - e) (λ l m. dark (i - e) l (omega arith) (omega arith) m), dark i k (omega arith) in′ n)
-        (omega arith)
-
     pub erode-rest : {a a′ : List ℕ} → RowsAre (rowsOf S) N 0 (light - e) (eroding h A N M e b) b a → RowsAre (rowsOf S) N (light - e) light (λ (i k : ℕ). 0) a a′
         → light ≤ M → RowsAre (rowsOf S) N 0 M (eroding h A N M e b) b a′
     erode-rest {a} {a′} upper cleared top = rows-join parted upto still zero-le top (le-refl M)
@@ -114,8 +108,4 @@ module _ (h : ℕ → ℕ) (A : ℕ → ℕ → ℕ) (S N M e : ℕ) (place : (i
     pub dilate-rest : RowsAre (rowsOf S) N (light + e) M (dilating h A N e b) b b
     dilate-rest =
         rows-still (rowsOf S) N (light + e) M (dilating h A N e b) b
-        (λ i k l u n. held-dark i k (omega arith) u n ∙ sym (dilating-dark i k l u n))
-
-    pub dilate-dark : {a : List ℕ} → RowsAre (rowsOf S) N e M (dilating h A N e b) b a → (i k : ℕ) → light + e ≤ i → i < M → k < N → getD a (A i k) 0 ≡ 0
-    dilate-dark {a} r i k from in′ n =
-        ap (λ (m : ℕ). getD a m 0) (place i k) ∙ r .within i k (omega arith) in′ n ∙ dilating-dark i k from in′ n
+        (λ i k l u n. held-dark i k (omega arith) u n ∙ sym (dilating-dark h A N M e b light dark i k l u n))

@@ -7,6 +7,7 @@
 --   opened-none                         lines shorter than the window
 --   erodes-end, dilates-end             the window length known by an equation
 --   erodes-dark                         0 where the window leaves the line
+--   dilating-dark, dilated-dark         0 where a dilation meets dark pixels only
 -- Assumes nothing.
 use mathlib.Core.Path.{_≡_, refl, sym, ap, ap₂, _∙_, subst}
 use mathlib.Core.Bool.{cond}
@@ -201,3 +202,15 @@ erodes-dark {s} {w} {b} {a} r light past i k from in′ n =
     let line = lane (shift s) (spot s) (s .minors) (s .majors) b (k + shift s i) in
     r .pixels .within i k in′ n
     ∙ eroded-to-past line w i (omega (arith, line-length (shift s) (spot s) (s .minors) (s .majors) b (k + shift s i)))
+
+-- a dilation brings the dark part's edge e further on
+pub dilating-dark : (h : ℕ → ℕ) (A : ℕ → ℕ → ℕ) (N M e : ℕ) (b : List ℕ) (light : ℕ) → ((i k : ℕ) → light ≤ i → i < M → k < N → getD b (A i k) 0 ≡ 0)
+    → (i k : ℕ) → light + e ≤ i → i < M → k < N → dilating h A N e b i k ≡ 0
+dilating-dark h A N M e b light dark i k from in′ n =
+    rw (le-ltb i e (omega arith), lane-dark h A N b (k + h i) (i - e) (λ l m. dark (i - e) l (omega arith) (omega arith) m), dark i k (omega arith) in′ n)
+    (omega arith)
+
+pub dilated-dark : (s : Sweep) {b a : List ℕ} (e light : ℕ) → Dark s light b
+    → PixelsAre (spot s) (s .majors) (s .minors) (dilating (shift s) (spot s) (s .minors) e b) b a → Dark s (light + e) a
+dilated-dark s {b} e light dark r i k from in′ n =
+    r .within i k in′ n ∙ dilating-dark (shift s) (spot s) (s .minors) (s .majors) e b light dark i k from in′ n

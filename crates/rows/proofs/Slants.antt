@@ -4,8 +4,11 @@
 --   parted-slants, start-room  rows do not meet, and are in the buffer
 --   slant-ahead, slant-behind  what a row asks for is as it was
 --   ahead-in, ahead-out        the pixel d rows past row t, or none
+--   row-by-row, turned-spot    where a pixel stands in its row
+--   row-dark, dark-past        a frame that is dark from a column on, row by row; the rows that a pass has yet to treat
 --   One row:
---   slant-near, slant-far      the row that the marks choose
+--   ahead-dark, onward-dark, backward-dark    what it asks for is dark
+--   chosen-both, chosen-straight, chosen-last    the row that the marks choose
 --   erode-gone, erode-last, erode-both      an erosion's row, where none, one or both of the rows that it asks for are in the frame
 --   dilate-gone, dilate-last, dilate-both   a dilation's row, likewise
 --   erode-straight, dilate-straight         a row of a pass in which no line bends
@@ -34,9 +37,9 @@ use Rattle.frame.specs.Sweep.{shift, Sane}
 use Rattle.frame.proofs.Rounding.{r-up}
 use Rattle.frame.proofs.Spans.{shift-falling, shift-rising}
 use Rattle.rows.specs.Rows.{spot, laneAt, PixelsAre, RowsAre, rowsOf}
-use Rattle.rows.specs.Passes.{eroding, dilating, Slanted, startOf, rowStart, aheadAt, rowsOn, Bends, onward, backward, eroded, dilated}
+use Rattle.rows.specs.Passes.{Dark, DarkPast, eroding, dilating, Slanted, startOf, rowStart, aheadAt, rowsOn, Bends, onward, backward, eroded, dilated}
 use Rattle.rows.proofs.Rowwise.{Parted, parted-rows, row-kept, row-room, rows-more}
-use Rattle.rows.proofs.Lines.{lane-in, lane-left, lane-right, columns-pixels, pixels-as}
+use Rattle.rows.proofs.Lines.{lane-in, lane-left, lane-right, lane-dark, columns-pixels, pixels-as}
 
 -- ---- rows in the order in which the lines cross them
 
@@ -60,7 +63,7 @@ start-room false S W N n t h room = row-room S W N n t h room
 start-room true S W N n t h room = row-room S W N n (N - 1 - t) (omega arith) room
 
 -- what row t asks for, d rows past it, is as it was when the row is treated from its first column on, or from its last
-module _ (up : Bool) (S W N t d e n : ℕ) (wide : W ≤ S) (in′ : t + d < N) (whole : n + e ≡ W) where
+module _ (up : Bool) (S W N t d e n : ℕ) (wide : W ≤ S) (in′ : t + d < N) (whole : n + e ≤ W) where
   apart : (startOf up N S t ≡ startOf up N S (t + d)) ⊎ ((startOf up N S t + W ≤ startOf up N S (t + d)) ⊎ (startOf up N S (t + d) + W ≤ startOf up N S t))
   apart =
       ⊎-elim
@@ -84,6 +87,43 @@ module _ (up : Bool) (N S : ℕ) (g : List ℕ) where
   pub ahead-out : (t j d : ℕ) → N ≤ t + d → aheadAt up N S g t j d ≡ 0
   unfolding aheadAt
   ahead-out t j d out = rw (le-ltb (t + d) N out)
+
+-- the row that holds pixel k, in the order of the pass
+abbrev pub turned : Bool → ℕ → ℕ → ℕ
+turned up N k = cond up (N - 1 - k) k
+
+turned-in : (up : Bool) (N k : ℕ) → k < N → turned up N k < N
+turned-in false N k h = h
+turned-in true N k h = omega arith
+
+turned-back : (up : Bool) (N t : ℕ) → t < N → turned up N (turned up N t) ≡ t
+turned-back false N t h = refl
+turned-back true N t h = omega arith
+
+turned-start : (up : Bool) (N S k : ℕ) → k < N → startOf up N S (turned up N k) ≡ k * S
+turned-start false N S k h = start-down N S k
+turned-start true N S k h = let e : N - 1 - (N - 1 - k) ≡ k = omega arith in start-up N S (N - 1 - k) ∙ ap (λ (x : ℕ). x * S) e
+
+-- the pixels of a row stand side by side
+pub row-by-row : (s : Sweep) → s .major ≡ 1 → (i k : ℕ) → spot s i k ≡ k * s .minor + i
+row-by-row s flat i k = let e : i * s .major ≡ i = ap (λ (x : ℕ). i * x) flat ∙ mul-one i in omega (arith, e)
+
+module _ (s : Sweep) (flat : s .major ≡ 1) where
+  turned-spot : (up : Bool) (i k : ℕ) → k < s .minors → spot s i k ≡ rowStart s up (turned up (s .minors) k) + i
+  turned-spot up i k n = row-by-row s flat i k ∙ ap (λ (x : ℕ). x + i) (sym (turned-start up (s .minors) (s .minor) k n))
+
+  row-dark : (up : Bool) (light : ℕ) (g : List ℕ) → Dark s light g → DarkPast s up 0 light g
+  row-dark up light g dark u x l n from in′ =
+      let there = turned-in up (s .minors) u n in
+      ap (λ (y : ℕ). getD g (rowStart s up y + x) 0) (sym (turned-back up (s .minors) u n))
+      ∙ ap (λ (y : ℕ). getD g y 0) (sym (turned-spot up x (turned up (s .minors) u) there))
+      ∙ dark x (turned up (s .minors) u) from in′ there
+
+  -- the rows from t on, where those before it are done
+  pub dark-past : (up : Bool) (light : ℕ) {F : ℕ → ℕ → ℕ} {t : ℕ} {b a : List ℕ} → Parted (rowStart s up) (s .majors) (s .minors) → Dark s light b
+      → RowsAre (rowStart s up) (s .majors) 0 t F b a → t < s .minors → DarkPast s up t light a
+  dark-past up light {F} {t} {b} {a} parted dark done h u x l n from in′ =
+      row-kept parted done (omega arith) u x n in′ (inr l) ∙ row-dark up light b dark u x zero-le n from in′
 
 -- ---- one row's part of a pass, in a buffer g
 
@@ -131,6 +171,24 @@ module _ (s : Sweep) (up : Bool) (m : List ℕ) (e d : ℕ) (g : List ℕ) (t : 
       (λ in′. backward-in x in′ ∙ ahead-out up (s .minors) (s .minor) g t (x - e) (rowsOn d m (x - e)) (omega (arith, rows-on-least d m (x - e))))
       (less-or-not x e)
 
+  module _ (light : ℕ) (dark : DarkPast s up t light g) where
+    ahead-dark : (j c : ℕ) → light ≤ j → j < s .majors → aheadAt up (s .minors) (s .minor) g t j c ≡ 0
+    ahead-dark j c from in′ =
+        ⊎-elim
+        (λ q. ahead-in up (s .minors) (s .minor) g t j c q ∙ dark (t + c) j (omega arith) q from in′)
+        (ahead-out up (s .minors) (s .minor) g t j c)
+        (less-or-not (t + c) (s .minors))
+
+    onward-dark : (x : ℕ) → light ≤ x + e → onward s up m e d g t x ≡ 0
+    onward-dark x from =
+        ⊎-elim
+        (λ in′. onward-in x in′ ∙ ahead-dark (x + e) (rowsOn d m x) from in′)
+        (onward-out x)
+        (less-or-not (x + e) (s .majors))
+
+    backward-dark : (x : ℕ) → light + e ≤ x → x < s .majors → backward s up m e d g t x ≡ 0
+    backward-dark x from in′ = backward-in x (omega arith) ∙ ahead-dark (x - e) (rowsOn d m (x - e)) (omega arith) (omega arith)
+
   -- both rows are in the frame; column j of them stands c bytes behind their starts
   chosen-both : (near far c j x : ℕ) → t + d + 1 < s .minors → near ≡ rowStart s up (t + d) + c → far ≡ rowStart s up (t + (d + 1)) + c
       → j ≡ x + c → bent m near far g x ≡ aheadAt up (s .minors) (s .minor) g t j (rowsOn d m x)
@@ -160,7 +218,7 @@ module _ (s : Sweep) (up : Bool) (m : List ℕ) (e d : ℕ) (g : List ℕ) (t : 
       (λ q. ap (λ (y : ℕ). getD g y 0) (omega (arith, en, ej)) ∙ sym (ahead-in up (s .minors) (s .minor) g t j d in′))
       (λ q. sym (ahead-out up (s .minors) (s .minor) g t j (d + 1) (omega arith)))
 
-  module _ (at : ℕ) (here : at ≡ rowStart s up t) (room : at + s .majors ≤ length g) where
+  module _ (at : ℕ) (here : at ≡ rowStart s up t) (room : at + s .majors ≤ length g) (in″ : t < s .minors) (light : ℕ) (dark : DarkPast s up t light g) where
     -- the row by its start
     settled : {g′ : List ℕ} (F : ℕ → ℕ) → Filled g g′ at (at + s .majors) (λ (x : ℕ). F (x - at))
         → Filled g g′ (rowStart s up t) (rowStart s up t + s .majors) (λ (x : ℕ). F (x - rowStart s up t))
@@ -169,19 +227,24 @@ module _ (s : Sweep) (up : Bool) (m : List ℕ) (e d : ℕ) (g : List ℕ) (t : 
     own : (x : ℕ) → at ≤ x → getD g x 0 ≡ getD g (rowStart s up t + (x - at)) 0
     own x l = ap (λ (y : ℕ). getD g y 0) (omega (arith, here))
 
-    pub erode-gone : {g₁ : List ℕ} → Clears at (s .majors) g g₁ → s .minors ≤ t + d
+    own-dark : (x : ℕ) → at + light ≤ x → x < at + s .majors → getD g x 0 ≡ 0
+    own-dark x l h = own x (omega arith) ∙ dark t (x - at) (le-refl t) in″ (omega arith) (omega arith)
+
+    pub erode-gone : {g₁ : List ℕ} → Clears at light g g₁ → light ≤ s .majors → s .minors ≤ t + d
         → Filled g g₁ (rowStart s up t) (rowStart s up t + s .majors) (λ (x : ℕ). eroded s up m e d g t (x - rowStart s up t))
-    erode-gone {g₁} clear gone =
-        let c : Filled g g₁ at (at + s .majors) (λ (x : ℕ). 0) = clear .done room in
+    erode-gone {g₁} clear top gone =
+        let c : Filled g g₁ at (at + light) (λ (x : ℕ). 0) = clear .done (omega arith) in
         settled (eroded s up m e d g t)
         (record {
           same = c .same;
-          within = λ x l h. c .within x l h ∙ min-zero _ _ (onward-gone (x - at) gone);
+          within = λ x l h.
+              ⊎-elim (λ q. c .within x l q) (λ q. c .above x q ∙ own-dark x q h) (less-or-not x (at + light))
+              ∙ min-zero _ _ (onward-gone (x - at) gone);
           below = c .below;
-          above = c .above;
+          above = λ x l. c .above x (omega arith);
         })
 
-    module _ (n near : ℕ) (wide : n + e ≡ s .majors) (first : near ≡ rowStart s up (t + d) + e) where
+    module _ (n near : ℕ) (wide : n + e ≡ light) (top : light ≤ s .majors) (first : near ≡ rowStart s up (t + d) + e) where
       -- the row where `partner` has the pixels that its lines go on to
       erode-by : {g₁ g₂ : List ℕ} (partner : ℕ → ℕ) → ((x : ℕ) → partner x ≡ aheadAt up (s .minors) (s .minor) g t (x + e) (rowsOn d m x))
           → Filled g g₁ at (at + n) (λ (x : ℕ). min (getD g x 0) (partner (x - at))) → Clears (at + n) e g₁ g₂
@@ -194,7 +257,9 @@ module _ (s : Sweep) (up : Bool) (m : List ℕ) (e d : ℕ) (g : List ℕ) (t : 
             within = λ x l h.
                 ⊎-elim
                 (λ q. c .below x q ∙ f .within x l q ∙ ap₂ min (own x l) (chosen (x - at) ∙ sym (onward-in (x - at) (omega arith))))
-                (λ q. c .within x q (omega arith) ∙ min-zero _ _ (onward-out (x - at) (omega arith)))
+                (λ q.
+                ⊎-elim (λ v. c .within x q v) (λ v. c .above x v ∙ f .above x q ∙ own-dark x (omega arith) h) (less-or-not x (at + n + e))
+                ∙ min-zero _ _ (onward-dark light dark (x - at) (omega arith)))
                 (less-or-not x (at + n));
             below = λ x l. c .below x (omega arith) ∙ f .below x l;
             above = λ x l. c .above x (omega arith) ∙ f .above x (omega arith);
@@ -229,7 +294,9 @@ module _ (s : Sweep) (up : Bool) (m : List ℕ) (e d : ℕ) (g : List ℕ) (t : 
                 ∙ darker x
                 ∙ ap₂ min (own x l)
                 (chosen-last near e (x - at + e) (x - at) in′ last first refl ∙ sym (onward-in (x - at) (omega arith))))
-                (λ q. c .within x q (omega arith) ∙ min-zero _ _ (onward-out (x - at) (omega arith)))
+                (λ q.
+                ⊎-elim (λ v. c .within x q v) (λ v. c .above x v ∙ b .above x q ∙ f .above x q ∙ own-dark x (omega arith) h) (less-or-not x (at + n + e))
+                ∙ min-zero _ _ (onward-dark light dark (x - at) (omega arith)))
                 (less-or-not x (at + n));
             below = λ x l. c .below x (omega arith) ∙ b .below x l ∙ f .below x l;
             above = λ x l. c .above x (omega arith) ∙ b .above x (omega arith) ∙ f .above x (omega arith);
@@ -254,10 +321,10 @@ module _ (s : Sweep) (up : Bool) (m : List ℕ) (e d : ℕ) (g : List ℕ) (t : 
           above = λ x l. refl;
         })
 
-    module _ (n near : ℕ) (wide : n + e ≡ s .majors) (first : near ≡ rowStart s up (t + d)) where
+    module _ (near : ℕ) (wide : light + e ≤ s .majors) (first : near ≡ rowStart s up (t + d)) where
       -- the row where `partner` has the pixels that its lines come from
       dilate-by : {g₁ : List ℕ} (partner : ℕ → ℕ) → ((x : ℕ) → partner x ≡ aheadAt up (s .minors) (s .minor) g t x (rowsOn d m x))
-          → Filled g g₁ (at + e) (at + e + n) (λ (x : ℕ). max (getD g x 0) (partner (x - (at + e))))
+          → Filled g g₁ (at + e) (at + e + light) (λ (x : ℕ). max (getD g x 0) (partner (x - (at + e))))
           → Filled g g₁ (rowStart s up t) (rowStart s up t + s .majors) (λ (x : ℕ). dilated s up m e d g t (x - rowStart s up t))
       dilate-by {g₁} partner chosen f =
           settled (dilated s up m e d g t)
@@ -267,26 +334,31 @@ module _ (s : Sweep) (up : Bool) (m : List ℕ) (e d : ℕ) (g : List ℕ) (t : 
                 ⊎-elim
                 (λ q. f .below x q ∙ own x l ∙ max-zero _ _ (backward-out (x - at) (omega arith)))
                 (λ q.
+                ⊎-elim
+                (λ v.
                 let c : x - (at + e) ≡ x - at - e = omega arith in
-                f .within x q (omega arith)
+                f .within x q v
                 ∙ ap₂ max (own x l) (ap partner c ∙ chosen (x - at - e) ∙ sym (backward-in (x - at) (omega arith))))
+                (λ v. f .above x v ∙ own x l ∙ max-zero _ _ (backward-dark light dark (x - at) (omega arith) (omega arith)))
+                (less-or-not x (at + e + light)))
                 (less-or-not x (at + e));
             below = λ x l. f .below x (omega arith);
             above = λ x l. f .above x (omega arith);
           })
 
-      pub dilate-both : {g₁ : List ℕ} (far : ℕ) → Filled g g₁ (at + e) (at + e + n) (λ (x : ℕ). max (getD g x 0) (bent m near far g (x - (at + e))))
+      pub dilate-both : {g₁ : List ℕ} (far : ℕ) → Filled g g₁ (at + e) (at + e + light) (λ (x : ℕ). max (getD g x 0) (bent m near far g (x - (at + e))))
           → t + d + 1 < s .minors → far ≡ rowStart s up (t + (d + 1))
           → Filled g g₁ (rowStart s up t) (rowStart s up t + s .majors) (λ (x : ℕ). dilated s up m e d g t (x - rowStart s up t))
       dilate-both far f in′ second =
           dilate-by (bent m near far g) (λ x. chosen-both near far 0 x x in′ (omega (arith, first)) (omega (arith, second)) (omega arith)) f
 
-      pub dilate-straight : {g₁ : List ℕ} → ((x : ℕ) → rowsOn d m x ≡ d) → Filled g g₁ (at + e) (at + e + n) (λ (x : ℕ). max (getD g x 0) (straight near g (x - (at + e))))
+      pub dilate-straight : {g₁ : List ℕ} → ((x : ℕ) → rowsOn d m x ≡ d)
+          → Filled g g₁ (at + e) (at + e + light) (λ (x : ℕ). max (getD g x 0) (straight near g (x - (at + e))))
           → t + d < s .minors
           → Filled g g₁ (rowStart s up t) (rowStart s up t + s .majors) (λ (x : ℕ). dilated s up m e d g t (x - rowStart s up t))
       dilate-straight plain f in′ = dilate-by (straight near g) (λ x. chosen-straight near 0 x x plain in′ (omega (arith, first)) (omega arith)) f
 
-      pub dilate-last : {g₁ : List ℕ} → Filled g g₁ (at + e) (at + e + n) (λ (x : ℕ). max (getD g x 0) (bent m near (at + e) g (x - (at + e))))
+      pub dilate-last : {g₁ : List ℕ} → Filled g g₁ (at + e) (at + e + light) (λ (x : ℕ). max (getD g x 0) (bent m near (at + e) g (x - (at + e))))
           → t + d < s .minors → s .minors ≤ t + d + 1
           → Filled g g₁ (rowStart s up t) (rowStart s up t + s .majors) (λ (x : ℕ). dilated s up m e d g t (x - rowStart s up t))
       unfolding bent
@@ -298,13 +370,17 @@ module _ (s : Sweep) (up : Bool) (m : List ℕ) (e d : ℕ) (g : List ℕ) (t : 
                 ⊎-elim
                 (λ q. f .below x q ∙ own x l ∙ max-zero _ _ (backward-out (x - at) (omega arith)))
                 (λ q.
+                ⊎-elim
+                (λ v.
                 let c : x - (at + e) ≡ x - at - e = omega arith in
-                f .within x q (omega arith)
+                f .within x q v
                 ∙ brighter x q
                 ∙ ap₂ max (own x l)
                 (ap (λ (j : ℕ). cond (eqb (getD m j 0) 0) (getD g (near + j) 0) 0) c
                 ∙ chosen-last near 0 (x - at - e) (x - at - e) in′ last (omega (arith, first)) (omega arith)
                 ∙ sym (backward-in (x - at) (omega arith))))
+                (λ v. f .above x v ∙ own x l ∙ max-zero _ _ (backward-dark light dark (x - at) (omega arith) (omega arith)))
+                (less-or-not x (at + e + light)))
                 (less-or-not x (at + e));
             below = λ x l. f .below x (omega arith);
             above = λ x l. f .above x (omega arith);
@@ -394,10 +470,6 @@ module _ (s : Sweep) (up : Bool) (m : List ℕ) (e d : ℕ) {b a : List ℕ} (pa
 
 -- ---- the pass, for every line
 
--- the row that holds pixel k, in the order of the pass
-abbrev pub turned : Bool → ℕ → ℕ → ℕ
-turned up N k = cond up (N - 1 - k) k
-
 module _ (N S : ℕ) (g : List ℕ) (h : ℕ → ℕ) (A : ℕ → ℕ → ℕ) (place : (i k : ℕ) → A i k ≡ k * S + i) where
   lane-down : (k i j c : ℕ) → k < N → h i ≡ h j + c → aheadAt false N S g k j c ≡ laneAt h A N g (k + h i) j
   lane-down k i j c n e =
@@ -423,49 +495,34 @@ module _ (N S : ℕ) (g : List ℕ) (h : ℕ → ℕ) (A : ℕ → ℕ → ℕ) 
       (λ q. ahead-out true N S g (N - 1 - k) j c q ∙ sym (lane-left h A N g (k + h i) j (omega (arith, e))))
       (less-or-not (N - 1 - k + c) N)
 
-turned-in : (up : Bool) (N k : ℕ) → k < N → turned up N k < N
-turned-in false N k h = h
-turned-in true N k h = omega arith
-
-turned-back : (up : Bool) (N t : ℕ) → t < N → turned up N (turned up N t) ≡ t
-turned-back false N t h = refl
-turned-back true N t h = omega arith
-
-turned-start : (up : Bool) (N S k : ℕ) → k < N → startOf up N S (turned up N k) ≡ k * S
-turned-start false N S k h = start-down N S k
-turned-start true N S k h = let e : N - 1 - (N - 1 - k) ≡ k = omega arith in start-up N S (N - 1 - k) ∙ ap (λ (x : ℕ). x * S) e
-
--- the pixels of a row stand side by side
-pub row-by-row : (s : Sweep) → s .major ≡ 1 → (i k : ℕ) → spot s i k ≡ k * s .minor + i
-row-by-row s flat i k = let e : i * s .major ≡ i = ap (λ (x : ℕ). i * x) flat ∙ mul-one i in omega (arith, e)
-
 -- a frame whose rows are all 0
 pub cleared-lines : (s : Sweep) → s .major ≡ 1 → {b a : List ℕ} → RowsAre (rowsOf (s .minor)) (s .majors) 0 (s .minors) (λ (i k : ℕ). 0) b a
     → PixelsAre (spot s) (s .majors) (s .minors) (λ (i k : ℕ). 0) b a
 cleared-lines s flat done = columns-pixels done (spot s) (λ (k : ℕ). k) (λ k h. h) (λ t h. refl) (λ i k h. row-by-row s flat i k)
 
-module _ (s : Sweep) (m : List ℕ) (e d : ℕ) (sane : Sane s) (flat : s .major ≡ 1) (marks : Bends (s .run) (s .rise) e d (s .majors - e) m) where
-  turned-spot : (up : Bool) (i k : ℕ) → k < s .minors → spot s i k ≡ rowStart s up (turned up (s .minors) k) + i
-  turned-spot up i k n = row-by-row s flat i k ∙ ap (λ (x : ℕ). x + i) (sym (turned-start up (s .minors) (s .minor) k n))
+module _ (s : Sweep) (m : List ℕ) (e d : ℕ) (sane : Sane s) (flat : s .major ≡ 1) (b : List ℕ) (light : ℕ) (dark : Dark s light b) where
+  past : (up : Bool) (k : ℕ) → DarkPast s up (turned up (s .minors) k) light b
+  past up k u x from = row-dark s flat up light b dark u x zero-le
 
   -- how far the lines have moved aside in all
   moved-less : (i : ℕ) → i < s .majors → r (s .run) (s .rise) i ≤ s .top
   moved-less i h = omega (arith, sane .top, r-up (s .run) (s .rise) i (s .majors - 1) (sane .moves) (omega arith))
 
-  pub eroded-lines : {b a : List ℕ} → RowsAre (rowStart s (s .falling)) (s .majors) 0 (s .minors) (eroded s (s .falling) m e d b) b a
+  pub eroded-lines : {a : List ℕ} → Bends (s .run) (s .rise) e d (light - e) m
+      → RowsAre (rowStart s (s .falling)) (s .majors) 0 (s .minors) (eroded s (s .falling) m e d b) b a
       → PixelsAre (spot s) (s .majors) (s .minors) (eroding (shift s) (spot s) (s .minors) (s .majors) e b) b a
-  eroded-lines {b} {a} done =
+  eroded-lines {a} marks done =
       pixels-as
-      (columns-pixels done (spot s) (turned (s .falling) (s .minors)) (turned-in (s .falling) (s .minors)) (turned-back (s .falling) (s .minors)) (turned-spot (s .falling)))
+      (columns-pixels done (spot s) (turned (s .falling) (s .minors)) (turned-in (s .falling) (s .minors)) (turned-back (s .falling) (s .minors)) (turned-spot s flat (s .falling)))
       (eroding (shift s) (spot s) (s .minors) (s .majors) e b)
-      (λ i k l n. ap₂ min (ap (λ (x : ℕ). getD b x 0) (sym (turned-spot (s .falling) i k n))) (ahead i k n))
+      (λ i k l n. ap₂ min (ap (λ (x : ℕ). getD b x 0) (sym (turned-spot s flat (s .falling) i k n))) (ahead i k n))
     where
-      lane-on : (i k : ℕ) → k < s .minors → i + e < s .majors → (up : Bool) → s .falling ≡ up
+      lane-on : (i k : ℕ) → k < s .minors → i + e < s .majors → i + e < light → (up : Bool) → s .falling ≡ up
           → aheadAt up (s .minors) (s .minor) b (turned up (s .minors) k) (i + e) (rowsOn d m i) ≡ laneAt (shift s) (spot s) (s .minors) b (k + shift s i) (i + e)
-      lane-on i k n h true f =
+      lane-on i k n h w true f =
           lane-up (s .minors) (s .minor) b (shift s) (spot s) (row-by-row s flat) k i (i + e) (rowsOn d m i) n
           (shift-falling s f (i + e) ∙ marks i (omega arith) ∙ ap (λ (x : ℕ). x + rowsOn d m i) (sym (shift-falling s f i)))
-      lane-on i k n h false f =
+      lane-on i k n h w false f =
           lane-down (s .minors) (s .minor) b (shift s) (spot s) (row-by-row s flat) k i (i + e) (rowsOn d m i) n
           (omega (arith, shift-rising s f i, shift-rising s f (i + e), marks i (omega arith), moved-less (i + e) h))
 
@@ -474,31 +531,39 @@ module _ (s : Sweep) (m : List ℕ) (e d : ℕ) (sane : Sane s) (flat : s .major
           ≡ cond (ltb (i + e) (s .majors)) (laneAt (shift s) (spot s) (s .minors) b (k + shift s i) (i + e)) 0
       ahead i k n =
           ⊎-elim
-          (λ in′. rw (lt-ltb (i + e) (s .majors) in′) (onward-in s (s .falling) m e d b (turned (s .falling) (s .minors) k) i in′ ∙ lane-on i k n in′ (s .falling) refl))
+          (λ in′.
+          rw (lt-ltb (i + e) (s .majors) in′)
+          (⊎-elim
+          (λ w. onward-in s (s .falling) m e d b (turned (s .falling) (s .minors) k) i in′ ∙ lane-on i k n in′ w (s .falling) refl)
+          (λ w.
+          onward-dark s (s .falling) m e d b (turned (s .falling) (s .minors) k) light (past (s .falling) k) i w
+          ∙ sym (lane-dark (shift s) (spot s) (s .minors) b (k + shift s i) (i + e) (λ c v. dark (i + e) c w in′ v)))
+          (less-or-not (i + e) light)))
           (λ out. rw (le-ltb (i + e) (s .majors) out) (onward-out s (s .falling) m e d b (turned (s .falling) (s .minors) k) i out))
           (less-or-not (i + e) (s .majors))
 
-  pub dilated-lines : {b a : List ℕ} → RowsAre (rowStart s (not (s .falling))) (s .majors) 0 (s .minors) (dilated s (not (s .falling)) m e d b) b a
+  pub dilated-lines : {a : List ℕ} → Bends (s .run) (s .rise) e d light m
+      → RowsAre (rowStart s (not (s .falling))) (s .majors) 0 (s .minors) (dilated s (not (s .falling)) m e d b) b a
       → PixelsAre (spot s) (s .majors) (s .minors) (dilating (shift s) (spot s) (s .minors) e b) b a
-  dilated-lines {b} {a} done =
+  dilated-lines {a} marks done =
       pixels-as
       (columns-pixels done (spot s) (turned (not (s .falling)) (s .minors)) (turned-in (not (s .falling)) (s .minors)) (turned-back (not (s .falling)) (s .minors))
-      (turned-spot (not (s .falling))))
+      (turned-spot s flat (not (s .falling))))
       (dilating (shift s) (spot s) (s .minors) e b)
-      (λ i k l n. ap₂ max (ap (λ (x : ℕ). getD b x 0) (sym (turned-spot (not (s .falling)) i k n))) (before i k l n))
+      (λ i k l n. ap₂ max (ap (λ (x : ℕ). getD b x 0) (sym (turned-spot s flat (not (s .falling)) i k n))) (before i k l n))
     where
-      moved : (i : ℕ) → e ≤ i → i < s .majors → r (s .run) (s .rise) i ≡ r (s .run) (s .rise) (i - e) + rowsOn d m (i - e)
-      moved i h l = let q : i ≡ i - e + e = omega arith in ap (r (s .run) (s .rise)) q ∙ marks (i - e) (omega arith)
+      moved : (i : ℕ) → e ≤ i → i < light + e → r (s .run) (s .rise) i ≡ r (s .run) (s .rise) (i - e) + rowsOn d m (i - e)
+      moved i h w = let q : i ≡ i - e + e = omega arith in ap (r (s .run) (s .rise)) q ∙ marks (i - e) (omega arith)
 
-      lane-back : (i k : ℕ) → i < s .majors → k < s .minors → e ≤ i → (f : Bool) → s .falling ≡ f
+      lane-back : (i k : ℕ) → i < s .majors → k < s .minors → e ≤ i → i < light + e → (f : Bool) → s .falling ≡ f
           → aheadAt (not f) (s .minors) (s .minor) b (turned (not f) (s .minors) k) (i - e) (rowsOn d m (i - e))
           ≡ laneAt (shift s) (spot s) (s .minors) b (k + shift s i) (i - e)
-      lane-back i k l n h true f =
+      lane-back i k l n h w true f =
           lane-down (s .minors) (s .minor) b (shift s) (spot s) (row-by-row s flat) k i (i - e) (rowsOn d m (i - e)) n
-          (shift-falling s f i ∙ moved i h l ∙ ap (λ (x : ℕ). x + rowsOn d m (i - e)) (sym (shift-falling s f (i - e))))
-      lane-back i k l n h false f =
+          (shift-falling s f i ∙ moved i h w ∙ ap (λ (x : ℕ). x + rowsOn d m (i - e)) (sym (shift-falling s f (i - e))))
+      lane-back i k l n h w false f =
           lane-up (s .minors) (s .minor) b (shift s) (spot s) (row-by-row s flat) k i (i - e) (rowsOn d m (i - e)) n
-          (omega (arith, shift-rising s f i, shift-rising s f (i - e), moved i h l, moved-less i l))
+          (omega (arith, shift-rising s f i, shift-rising s f (i - e), moved i h w, moved-less i l))
 
       before : (i k : ℕ) → i < s .majors → k < s .minors
           → backward s (not (s .falling)) m e d b (turned (not (s .falling)) (s .minors) k) i
@@ -506,5 +571,12 @@ module _ (s : Sweep) (m : List ℕ) (e d : ℕ) (sane : Sane s) (flat : s .major
       before i k l n =
           ⊎-elim
           (λ out. rw (lt-ltb i e out) (backward-out s (not (s .falling)) m e d b (turned (not (s .falling)) (s .minors) k) i out))
-          (λ in′. rw (le-ltb i e in′) (backward-in s (not (s .falling)) m e d b (turned (not (s .falling)) (s .minors) k) i in′ ∙ lane-back i k l n in′ (s .falling) refl))
+          (λ in′.
+          rw (le-ltb i e in′)
+          (⊎-elim
+          (λ w. backward-in s (not (s .falling)) m e d b (turned (not (s .falling)) (s .minors) k) i in′ ∙ lane-back i k l n in′ w (s .falling) refl)
+          (λ w.
+          backward-dark s (not (s .falling)) m e d b (turned (not (s .falling)) (s .minors) k) light (past (not (s .falling)) k) i w l
+          ∙ sym (lane-dark (shift s) (spot s) (s .minors) b (k + shift s i) (i - e) (λ c v. dark (i - e) c (omega arith) (omega arith) v)))
+          (less-or-not i (light + e))))
           (less-or-not i e)

@@ -3,18 +3,19 @@
 --   dilating h A N e g i k     what a pass of a dilation makes of it
 --   ErodesLines s w            each line of the sweep s is eroded by windows of w pixels
 --   DilatesLines s L w         from the erosion of any frame by L, each line is dilated by windows of w
+--   Dark s light g             every pixel from the major coordinate `light` on is 0
 -- Lines that go down the rows:
 --   Down s g             the lines of s go down the rows of the frame that stands in g
---   Dark s light g       every pixel of its rows from `light` on is 0
 -- Lines that go along the rows, and bend from one to the next:
 --   Slanted s g          the lines of s go along the rows of the frame that stands in g
 --   startOf up N S t     where row t starts, counted from the last of N rows where `up`
 --   rowStart s up t      the same in a frame whose lines are those of s
 --   aheadAt up N S g t j d   the pixel in column j, d rows past row t in this order; 0 where there is none
+--   DarkPast s up t light g  in row t and in those past it, every pixel from column `light` on is 0
 --   Bends a b e d n m    the marks m say, for the n columns from 0 on, whether a line that rises b in a run of a goes d or d + 1 rows aside in the next e columns
 --   Rest a b x rest      what the rounding of r at x leaves over
 --   Over a b e d over    what e columns have over, twice, past the d rows that they make for sure
---   Marked s e m         m has a mark for each column with one e further on, or there are none at all, as no line bends
+--   Marked n m           m has a mark for each of the n columns from 0 on, or there are none at all, as no line bends
 --   rowsOn d m x         so many rows, by the mark of column x
 --   onward, backward     the pixel's neighbour on its line e columns on, or before, by the marks
 --   eroded, dilated      what a pass makes of the pixel in column x of row t
@@ -49,6 +50,9 @@ pub record DilatesLines (s : Sweep) (L w : ℕ) (before after : List ℕ) : Type
       → PixelsAre (spot s) (s .majors) (s .minors)
       (λ (i k : ℕ). reopened (lane (shift s) (spot s) (s .minors) (s .majors) f (k + shift s i)) L w i) f after
 
+abbrev pub Dark : Sweep → ℕ → List ℕ → Type 0
+Dark s light g = (i k : ℕ) → light ≤ i → i < s .majors → k < s .minors → getD g (spot s i k) 0 ≡ 0
+
 -- ---- lines that go down the rows
 
 pub record Down (s : Sweep) (g : List ℕ) : Type 0 where
@@ -56,9 +60,6 @@ pub record Down (s : Sweep) (g : List ℕ) : Type 0 where
   pub next : s .minor ≡ 1
   pub apart : s .minors ≤ s .major
   pub room : (s .majors - 1) * s .major + s .minors ≤ length g
-
-abbrev pub Dark : Sweep → ℕ → List ℕ → Type 0
-Dark s light g = (i k : ℕ) → light ≤ i → i < s .majors → k < s .minors → getD g (spot s i k) 0 ≡ 0
 
 -- ---- lines that go along the rows, and bend
 
@@ -76,6 +77,9 @@ rowStart s up = startOf up (s .minors) (s .minor)
 
 unfoldable pub aheadAt : Bool → ℕ → ℕ → List ℕ → ℕ → ℕ → ℕ → ℕ
 aheadAt up N S g t j d = cond (ltb (t + d) N) (getD g (startOf up N S (t + d) + j) 0) 0
+
+abbrev pub DarkPast : Sweep → Bool → ℕ → ℕ → List ℕ → Type 0
+DarkPast s up t light g = (u x : ℕ) → t ≤ u → u < s .minors → light ≤ x → x < s .majors → getD g (rowStart s up u + x) 0 ≡ 0
 
 abbrev pub rowsOn : ℕ → List ℕ → ℕ → ℕ
 rowsOn d m x = cond (eqb (getD m x 0) 0) d (d + 1)
@@ -103,5 +107,5 @@ pub record Rest (a b x rest : ℕ) : Type 0 where
 abbrev pub Over : ℕ → ℕ → ℕ → ℕ → ℕ → Type 0
 Over a b e d over = (d ≡ e * b / a) × (over ≡ 2 * (e * b - d * a))
 
-abbrev pub Marked : Sweep → ℕ → List ℕ → Type 0
-Marked s e m = (length m ≡ 0) ⊎ (s .majors ≤ length m + e)
+abbrev pub Marked : ℕ → List ℕ → Type 0
+Marked n m = (length m ≡ 0) ⊎ (n ≤ length m)

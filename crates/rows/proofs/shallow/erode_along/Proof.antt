@@ -1,6 +1,6 @@
 -- The frame holds its lines eroded by windows of w pixels.
 use mathlib.Core.Path.{_≡_, refl, sym, _∙_}
-use Prim.Native.Nat.{_-_, _*_, _≤_}
+use Prim.Native.Nat.{_+_, _-_, _*_, _≤_}
 use native.Mathlib.Nat.{mul-le-mul}
 use native.Mathlib.Omega.{arith}
 use lib.Seq.{length-take-le}
@@ -9,7 +9,7 @@ use Rattle.answer.specs.Limits.{longest, steepest}
 use Rattle.frame.specs.Sweep.{shift}
 use Rattle.rows.specs.Rows.{spot}
 use Rattle.rows.specs.Passes.{ErodesLines}
-use Rattle.rows.proofs.Lines.{eroded-start, eroded-step, erodes-end}
+use Rattle.rows.proofs.Lines.{eroded-start, eroded-step, erodes-end, erodes-dark}
 use Rattle.rows.proofs.Bends.{marks-fit, marked-by}
 use Rattle.rows.proofs.Slants.{eroded-lines}
 use borrow.Author.Needs.{needs}
@@ -42,6 +42,12 @@ mul-step c =
 div-step : tie.Need-div-step Inv-loop μ-loop
 div-step c = omega (arith, c .before .before .before .before .before .before .before .pre .0 .sane .moves)
 
+add-light : tie.Need-add-light Inv-loop μ-loop
+add-light c = search needs
+
+sub-light : tie.Need-sub-light Inv-loop μ-loop
+sub-light c = search needs
+
 sub-mark-bends : tie.Need-sub-mark-bends Inv-loop μ-loop
 sub-mark-bends c =
     omega (arith, c .before .before .before .before .growth .ensures, c .before .before .before .before .before .before .loop .inv, c .before .before .before .before .before .before .before .before .before .pre)
@@ -73,7 +79,9 @@ erode-slants-requires c κs =
     let marked = c .before .before .before .before .mark-bends in (
       record { sane = slanted .sane; next = slanted .next; apart = slanted .apart; room = omega (arith, slanted .room, at .inv .0) },
       omega (arith, c .before .before .before .before .before .before .before .before .before .growth .ensures, at .inv, pre),
-      marked-by s _ _ _ (marked .ensures .1) (omega (arith, pre, at .inv .1, marked .ensures .0)),
+      omega (arith, at .inv),
+      erodes-dark (at .inv .4) _ (omega (arith, pre, at .inv)),
+      marked-by _ _ _ (marked .ensures .1) (omega (arith, pre, at .inv .1, marked .ensures .0)),
     )
 
 add-w : tie.Need-add-w Inv-loop μ-loop
@@ -98,7 +106,8 @@ loop-again c =
       omega (arith, at .inv, grown .ensures),
       record {
         pixels = eroded-step (shift s) (spot s) (s .minors) (s .majors) _ (at .w) (grown .result) (at .inv .4 .pixels)
-            (eroded-lines s _ (grown .result) _ (pre .0 .sane) (pre .0 .next) (marked .ensures .2) (pass .ensures)) (omega (arith, at .inv))
+            (eroded-lines s _ (grown .result) _ (pre .0 .sane) (pre .0 .next) _ (s .majors + 1 - at .w)
+            (erodes-dark (at .inv .4) _ (omega (arith, pre, at .inv))) (marked .ensures .2) (pass .ensures)) (omega (arith, at .inv))
             (omega (arith, grown .ensures));
       },
     )
@@ -122,6 +131,8 @@ erode-along-spec =
     growth-requires
     mul-step
     div-step
+    add-light
+    sub-light
     sub-mark-bends
     mark-bends-requires
     slice-reshare-prefix-erode-slants

@@ -3,7 +3,7 @@ use Prim.Native.Nat.{zero-le}
 use native.Mathlib.Omega.{arith}
 use Rattle.frame.specs.Sweep.{shift}
 use Rattle.rows.specs.Rows.{spot}
-use Rattle.rows.proofs.Lines.{opened-none, dilated-end}
+use Rattle.rows.proofs.Lines.{opened-none, dilated-end, erodes-dark}
 use Rattle.rows.proofs.Slants.{cleared-lines}
 use borrow.Author.Needs.{needs}
 use Rattle.rows.proofs.shallow.open_along.Statement.{statement}
@@ -39,6 +39,7 @@ dilate-along-requires c κs =
       pre .1,
       omega arith,
       omega (arith, pre .2, eroded .kept .1),
+      erodes-dark (eroded .ensures) _ (omega arith),
     )
 
 same-length-2 : tie.Need-same-length-2

@@ -20,7 +20,7 @@ returns c =
     let pre = c .before .before .before .before .pre in
     let slanted = pre .0 in
     let room = start-room (args .up) (s .minor) (s .majors) (s .minors) (length (args .buf .now)) (args .t) (omega arith) (slanted .room) in
-    dilate-gone s (args .up) (args .bends .now) (args .e) (args .step) (args .buf .now) (args .t) _ refl room (omega arith)
+    dilate-gone s (args .up) (args .bends .now) (args .e) (args .step) (args .buf .now) (args .t) _ refl room (pre .1) (args .light) (pre .3) (omega arith)
 
 start-requires : tie.Need-start-requires
 start-requires c κs = (c .before .before .before .before .pre .0 .sane, c .before .before .before .before .pre .1)
@@ -34,14 +34,11 @@ add-at c =
     let room = start-room (args .up) (s .minor) (s .majors) (s .minors) (length (args .buf .now)) (args .t) (omega arith) (slanted .room) in
     omega (arith, room, c .start .ensures)
 
-sub-n : tie.Need-sub-n
-sub-n c = search needs
-
 add-start : tie.Need-add-start
 add-start c = search needs
 
 start-requires-2 : tie.Need-start-requires-2
-start-requires-2 c κs = (c .before .before .before .before .before .before .pre .0 .sane, omega arith)
+start-requires-2 c κs = (c .before .before .before .before .before .pre .0 .sane, omega arith)
 
 sub-if2 : tie.Need-sub-if2
 sub-if2 c = search needs
@@ -54,20 +51,20 @@ same-length c = search needs
 
 returns-2 : tie.Need-returns-2
 returns-2 c =
-    let args = c .before .before .before .before .before .before .before .before .before .before .before .before .args in
+    let args = c .before .before .before .before .before .before .before .before .before .before .before .args in
     let s = args .s in
-    let pre = c .before .before .before .before .before .before .before .before .before .before .before .before .pre in
+    let pre = c .before .before .before .before .before .before .before .before .before .before .before .pre in
     let slanted = pre .0 in
     let room = start-room (args .up) (s .minor) (s .majors) (s .minors) (length (args .buf .now)) (args .t) (omega arith) (slanted .room) in
-    let here = c .before .before .before .before .before .before .before .start .ensures in
+    let here = c .before .before .before .before .before .before .start .ensures in
     let there = c .before .before .before .before .before .start2 .ensures in
     let next = start-room (args .up) (s .minor) (s .majors) (s .minors) (length (args .buf .now)) (args .t + args .step) (omega arith) (slanted .room) in
-    let behind = slant-behind (args .up) (s .minor) (s .majors) (s .minors) (args .t) (args .step) (args .e) (s .majors - args .e) (slanted .apart) (omega arith)
-    (omega arith) (c .before .before .before .before .before .before .before .start .result + args .e) (c .before .before .before .before .before .start2 .result) (omega (arith, here)) (there) in
+    let behind = slant-behind (args .up) (s .minor) (s .majors) (s .minors) (args .t) (args .step) (args .e) (args .light) (slanted .apart) (omega arith)
+    (omega arith) (c .before .before .before .before .before .before .start .result + args .e) (c .before .before .before .before .before .start2 .result) (omega (arith, here)) (there) in
     let bright = c .before .before .brighten-bent .ensures .done (omega (arith, room, here), omega (arith, next, there), behind)
     (omega (arith, room, here), omega (arith, room, here), inl (le-refl _)) (omega arith) in
     dilate-last s (args .up) (args .bends .now) (args .e) (args .step) (args .buf .now) (args .t) _ here (omega (arith, room, here))
-    (s .majors - args .e) _ (omega arith) there bright (omega arith) (omega arith)
+    (pre .1) (args .light) (pre .3) _ (pre .2) there bright (omega arith) (omega arith)
 
 add-start-2 : tie.Need-add-start-2
 add-start-2 c = search needs
@@ -76,7 +73,7 @@ add-start-3 : tie.Need-add-start-3
 add-start-3 c = search needs
 
 start-requires-3 : tie.Need-start-requires-3
-start-requires-3 c κs = (c .before .before .before .before .before .before .before .before .pre .0 .sane, omega arith)
+start-requires-3 c κs = (c .before .before .before .before .before .before .before .pre .0 .sane, omega arith)
 
 brighten-bent-requires-2 : tie.Need-brighten-bent-requires-2
 brighten-bent-requires-2 c κs = search needs
@@ -86,24 +83,24 @@ same-length-2 c = search needs
 
 returns-3 : tie.Need-returns-3
 returns-3 c =
-    let args = c .before .before .before .before .before .before .before .before .before .before .before .before .before .args in
+    let args = c .before .before .before .before .before .before .before .before .before .before .before .before .args in
     let s = args .s in
-    let pre = c .before .before .before .before .before .before .before .before .before .before .before .before .before .pre in
+    let pre = c .before .before .before .before .before .before .before .before .before .before .before .before .pre in
     let slanted = pre .0 in
     let room = start-room (args .up) (s .minor) (s .majors) (s .minors) (length (args .buf .now)) (args .t) (omega arith) (slanted .room) in
-    let here = c .before .before .before .before .before .before .before .before .start .ensures in
+    let here = c .before .before .before .before .before .before .before .start .ensures in
     let there = c .before .before .before .before .before .before .start2 .ensures in
     let past = c .before .before .before .before .start3 .ensures in
     let next = start-room (args .up) (s .minor) (s .majors) (s .minors) (length (args .buf .now)) (args .t + args .step) (omega arith) (slanted .room) in
     let last = start-room (args .up) (s .minor) (s .majors) (s .minors) (length (args .buf .now)) (args .t + (args .step + 1)) (omega arith) (slanted .room) in
-    let near = slant-behind (args .up) (s .minor) (s .majors) (s .minors) (args .t) (args .step) (args .e) (s .majors - args .e) (slanted .apart) (omega arith)
-    (omega arith) (c .before .before .before .before .before .before .before .before .start .result + args .e) (c .before .before .before .before .before .before .start2 .result) (omega (arith, here)) (there) in
-    let far = slant-behind (args .up) (s .minor) (s .majors) (s .minors) (args .t) (args .step + 1) (args .e) (s .majors - args .e) (slanted .apart) (omega arith)
-    (omega arith) (c .before .before .before .before .before .before .before .before .start .result + args .e) (c .before .before .before .before .start3 .result) (omega (arith, here)) (past) in
+    let near = slant-behind (args .up) (s .minor) (s .majors) (s .minors) (args .t) (args .step) (args .e) (args .light) (slanted .apart) (omega arith)
+    (omega arith) (c .before .before .before .before .before .before .before .start .result + args .e) (c .before .before .before .before .before .before .start2 .result) (omega (arith, here)) (there) in
+    let far = slant-behind (args .up) (s .minor) (s .majors) (s .minors) (args .t) (args .step + 1) (args .e) (args .light) (slanted .apart) (omega arith)
+    (omega arith) (c .before .before .before .before .before .before .before .start .result + args .e) (c .before .before .before .before .start3 .result) (omega (arith, here)) (past) in
     let bright = c .before .before .brighten-bent2 .ensures .done (omega (arith, room, here), omega (arith, next, there), near)
     (omega (arith, room, here), omega (arith, last, past), far) (omega arith) in
     dilate-both s (args .up) (args .bends .now) (args .e) (args .step) (args .buf .now) (args .t) _ here (omega (arith, room, here))
-    (s .majors - args .e) _ (omega arith) there _ bright (omega arith)
+    (pre .1) (args .light) (pre .3) _ (pre .2) there _ bright (omega arith)
     past
 
 pub dilate-bent-spec : {M : Type 1} → statement M
@@ -114,7 +111,6 @@ dilate-bent-spec =
     returns
     start-requires
     add-at
-    sub-n
     add-start
     start-requires-2
     sub-if2

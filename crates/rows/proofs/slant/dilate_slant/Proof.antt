@@ -7,7 +7,7 @@ use Rattle.rows.proofs.slant.dilate_slant.Statement.{statement}
 use Rattle.rows.proofs.slant.dilate_slant.Tie as tie
 
 dilate-straight-requires : tie.Need-dilate-straight-requires
-dilate-straight-requires c κs = (c .before .before .before .before .pre .0, c .before .before .before .before .pre .1, c .before .before .before .before .pre .2)
+dilate-straight-requires c κs = let pre = c .before .before .before .before .pre in (pre .0, pre .1, pre .2, pre .3)
 
 same-length : tie.Need-same-length
 same-length c = search needs
@@ -21,7 +21,7 @@ returns c =
 dilate-bent-requires : tie.Need-dilate-bent-requires
 dilate-bent-requires c κs =
     let pre = c .before .before .before .before .pre in
-    (pre .0, pre .1, pre .2, ⊎-elim (λ none. absurd (omega (arith, c .before .if1 .left))) (λ marks. marks) (pre .3))
+    (pre .0, pre .1, pre .2, pre .3, ⊎-elim (λ none. absurd (omega (arith, c .before .if1 .left))) (λ marks. marks) (pre .4))
 
 same-length-2 : tie.Need-same-length-2
 same-length-2 c = search needs

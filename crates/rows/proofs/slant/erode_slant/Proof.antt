@@ -7,7 +7,7 @@ use Rattle.rows.proofs.slant.erode_slant.Statement.{statement}
 use Rattle.rows.proofs.slant.erode_slant.Tie as tie
 
 erode-straight-requires : tie.Need-erode-straight-requires
-erode-straight-requires c κs = (c .before .before .before .before .pre .0, c .before .before .before .before .pre .1, c .before .before .before .before .pre .2)
+erode-straight-requires c κs = let pre = c .before .before .before .before .pre in (pre .0, pre .1, pre .2, pre .3, pre .4)
 
 same-length : tie.Need-same-length
 same-length c = search needs
@@ -21,7 +21,7 @@ returns c =
 erode-bent-requires : tie.Need-erode-bent-requires
 erode-bent-requires c κs =
     let pre = c .before .before .before .before .pre in
-    (pre .0, pre .1, pre .2, ⊎-elim (λ none. absurd (omega (arith, c .before .if1 .left))) (λ marks. marks) (pre .3))
+    (pre .0, pre .1, pre .2, pre .3, pre .4, ⊎-elim (λ none. absurd (omega (arith, c .before .if1 .left))) (λ marks. omega arith) (pre .5))
 
 same-length-2 : tie.Need-same-length-2
 same-length-2 c = search needs

@@ -4,24 +4,27 @@ use native.Mathlib.Omega.{arith}
 use Rattle.rows.specs.Rows.{RowsAre}
 use Rattle.rows.specs.Passes.{rowStart, eroded}
 use Rattle.rows.proofs.Rowwise.{rows-none, rows-end}
-use Rattle.rows.proofs.Slants.{parted-slants, erode-more}
+use Rattle.rows.proofs.Slants.{parted-slants, dark-past, erode-more}
 use borrow.Author.Needs.{needs}
 use Rattle.rows.proofs.slant.erode_slants.Statement.{statement}
 use Rattle.rows.proofs.slant.erode_slants.Tie as tie
 
 abbrev Inv-loop : tie.InvT-loop
-Inv-loop buf₀ bends s up e step rows t₀ buf t = (t ≤ rows) × RowsAre (rowStart s up) (s .majors) 0 t (eroded s up bends e step buf₀) buf₀ buf
+Inv-loop buf₀ bends s up light e step rows t₀ buf t = (t ≤ rows) × RowsAre (rowStart s up) (s .majors) 0 t (eroded s up bends e step buf₀) buf₀ buf
 
 abbrev μ-loop : tie.MeasureT-loop
-μ-loop buf₀ bends s up e step rows t₀ buf t = rows - t
+μ-loop buf₀ bends s up light e step rows t₀ buf t = rows - t
 
 loop-holds : tie.Need-loop-holds Inv-loop μ-loop
 loop-holds c = (search needs, rows-none _ _ _ _ _)
 
 erode-slant-requires : tie.Need-erode-slant-requires Inv-loop μ-loop
 erode-slant-requires c κs =
+    let args = c .before .before .before .before .before .args in
+    let s = args .s in
     let pre = c .before .before .before .before .before .pre in
     let slanted = pre .0 in
+    let parted = parted-slants (args .up) (s .minor) (s .majors) (s .minors) (slanted .apart) in
     let done = c .before .before .loop .inv .1 in (
       record {
         sane = slanted .sane;
@@ -32,6 +35,8 @@ erode-slant-requires c κs =
       c .before .loop-test .taken,
       pre .1,
       pre .2,
+      dark-past s (slanted .next) (args .up) (args .light) parted (pre .3) done (c .before .loop-test .taken),
+      pre .4,
     )
 
 add-t : tie.Need-add-t Inv-loop μ-loop

@@ -7,9 +7,9 @@ use lib.ListN
 use Rattle.frame.specs.Sweep.{shift}
 use Rattle.rows.specs.Passes.{DilatesLines, Dark}
 use Rattle.rows.proofs.Rowwise.{parted-rows, rows-join}
-use Rattle.rows.proofs.Lines.{rows-pixels, dilated-start, dilated-step, dilates-end}
+use Rattle.rows.proofs.Lines.{rows-pixels, dilated-start, dilated-step, dilates-end, dilated-dark}
 use Rattle.rows.specs.Rows.{spot}
-use Rattle.rows.proofs.Downs.{side-by-side, rows-before-all, dilate-dark}
+use Rattle.rows.proofs.Downs.{side-by-side, rows-before-all}
 use borrow.Author.Needs.{needs}
 use Rattle.rows.proofs.steep.dilate_down.Statement.{statement}
 use Rattle.rows.proofs.steep.dilate_down.Tie as tie
@@ -70,8 +70,7 @@ loop-again c =
         pixels = λ f e. dilated-step (shift s) (spot s) (s .minors) (s .majors) f length (at .w) (grown .result) (at .inv .3 .pixels f e)
             (rows-pixels whole (spot s) flat) (omega (arith, at .inv)) (omega (arith, grown .ensures));
       },
-      λ i k from. dilate-dark (shift s) (spot s) (s .major) (s .minors) (s .majors) (grown .result) flat parted _ (s .majors - length + at .w) (at .inv .4)
-          (pass .ensures) i k (omega arith),
+      λ i k from. dilated-dark s (grown .result) (s .majors - length + at .w) (at .inv .4) (rows-pixels whole (spot s) flat) i k (omega arith),
     )
 
 same-length : tie.Need-same-length Inv-loop μ-loop
