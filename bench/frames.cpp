@@ -94,7 +94,7 @@ struct Bench {
     Picture scratch;
     Leptonica leptonica;
     Times times[16][COUNT];
-    double highest[COUNT], highest_least[COUNT], direction[COUNT], direction_least[COUNT];
+    double together[COUNT], highest[COUNT], highest_least[COUNT], direction[COUNT], direction_least[COUNT];
 
     Bench(long side, long stride)
         : src(blurred_frame(side, side, stride)), ours(side, side, stride, 9), theirs(ours), scratch(ample(src)), leptonica(src)
@@ -106,13 +106,6 @@ struct Bench {
         double best = time([&] { expect(sixteen(call, src, length, ours, scratch, spare), "The call over sixteen directions is refused", {}, length); });
         expect(ours.bytes == wanted.bytes, "The call over sixteen directions differs from the sixteen", {}, length);
         return best;
-    }
-    double sum(int i) const
-    {
-        double total = 0;
-        for (auto &row : times)
-            total += row[i].ours;
-        return total;
     }
     Times measure(Direction d, long length);
     void measure_all();
@@ -144,6 +137,10 @@ void Bench::measure_all()
             times[n][i] = measure(SIXTEEN[n], LENGTHS[i]);
             leaders.follow(n, ours);
         }
+        together[i] = time([&] {
+            for (Direction d : SIXTEEN)
+                expect(open(src, d, LENGTHS[i], ours, scratch), "The opening is refused", d, LENGTHS[i]);
+        });
         highest[i] = time_sixteen(bench_highest, LENGTHS[i], ample(src), leaders.highest);
         highest_least[i] = time_sixteen(bench_highest, LENGTHS[i], least_for_highest(src), leaders.highest);
         direction[i] = time_sixteen(bench_direction_frame, LENGTHS[i], ample(src), leaders.direction);
@@ -180,10 +177,9 @@ static void print_spread(const Bench &b, int i)
 
 static void print_sixteen(const Bench &b, int i)
 {
-    double sum = b.sum(i);
-    std::printf("| %4ld x %4ld | %3ld | %7.2f", b.src.width, b.src.height, LENGTHS[i], sum);
+    std::printf("| %4ld x %4ld | %3ld | %7.2f", b.src.width, b.src.height, LENGTHS[i], b.together[i]);
     for (double t : {b.highest[i], b.highest_least[i], b.direction[i], b.direction_least[i]})
-        std::printf(" | %7.2f | %5.2f", t, t / sum);
+        std::printf(" | %7.2f | %5.2f", t, t / b.together[i]);
     std::printf(" |\n");
 }
 
@@ -195,8 +191,10 @@ template <class Figure> void print_aim(const Bench &b, const char *aim, int firs
         if (at_least ? figure(n) < figure(worst) : figure(n) > figure(worst))
             worst = n;
     bool met = at_least ? figure(worst) >= limit : figure(worst) <= limit;
-    std::printf("| %4ld x %4ld | %s | at %s %.1f | %s, in (%ld, %ld) | %s |\n", b.src.width, b.src.height, aim, at_least ? "least" : "most", limit, times_as(figure(worst)).c_str(),
-                long(SIXTEEN[worst].p), long(SIXTEEN[worst].q), met ? "met" : "missed");
+    std::printf("| %4ld x %4ld | %s | at %s %.1f | %s", b.src.width, b.src.height, aim, at_least ? "least" : "most", limit, times_as(figure(worst)).c_str());
+    if (first < last)
+        std::printf(", in (%ld, %ld)", long(SIXTEEN[worst].p), long(SIXTEEN[worst].q));
+    std::printf(" | %s |\n", met ? "met" : "missed");
 }
 
 static void print_aims(const Bench &b)
@@ -212,7 +210,7 @@ static void print_aims(const Bench &b)
     print_aim(b, "every direction: the library's at L = 401 over its own at L = 21", 0, 15, false, 1.6, [&](int n) { return b.times[n][3].ours / b.times[n][1].ours; });
     for (int i = 0; i < COUNT; i++) {
         std::string aim = "highest, ample scratch, L = " + std::to_string(LENGTHS[i]) + ": its time over the sixteen openings'";
-        print_aim(b, aim.c_str(), 0, 0, false, 1, [&](int) { return b.highest[i] / b.sum(i); });
+        print_aim(b, aim.c_str(), 0, 0, false, 1, [&](int) { return b.highest[i] / b.together[i]; });
     }
 }
 
@@ -257,9 +255,9 @@ int main(int argc, char **argv)
     for (auto &b : benches)
         for (int i = 0; i < COUNT; i++)
             print_spread(*b, i);
-    std::printf("\nThe highest opening and the direction frame, beside the sixteen openings one after the other: nanoseconds a pixel, and how many times their sum. With ample\n"
+    std::printf("\nThe highest opening and the direction frame, beside the sixteen openings one after the other: nanoseconds a pixel, and how many times as long they take. With ample\n"
                 "scratch (2·W·H bytes) they open frames in it; with the least that their rules ask for they go by strips.\n\n");
-    std::printf("| frame | length | sixteen openings | highest | times the sum | least scratch | times | direction frame | times the sum | least scratch | times |\n"
+    std::printf("| frame | length | sixteen openings | highest | times | least scratch | times | direction frame | times | least scratch | times |\n"
                 "|---|---|---|---|---|---|---|---|---|---|---|\n");
     for (auto &b : benches)
         for (int i = 0; i < COUNT; i++)
