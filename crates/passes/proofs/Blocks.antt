@@ -10,6 +10,7 @@
 --   met-block, met-block-before      a block of c bytes more, behind the others or before them
 --   met-late, met-early              a block made in the course of a pass is as one made where it began: upward, and downward
 --   met-last, met-first              a block stored over some of the others
+--   met-upward, met-downward         a row by blocks, the last two of which overlap
 -- Assumes nothing.
 use mathlib.Core.Path.{_≡_, refl, sym, ap, ap₂, _∙_}
 use mathlib.Core.Bool.{Bool, true, false, cond}
@@ -134,6 +135,17 @@ module _ (op : ℕ → ℕ → ℕ) (partner : List ℕ → ℕ → ℕ) (at : �
         (omega arith) (omega arith))
         (omega arith)
 
+    -- a row: the blocks up to at + i are done; then s at at + i and t, the last, are both made before either is stored
+    pub met-upward : {g a b e : List ℕ} (c : ℕ) (s t : List ℕ) (i : ℕ) → Filled g a at (at + i) (met op partner at g) → i + c ≤ n → n ≤ i + c + c
+        → ((k : ℕ) → k < c → getD s k 0 ≡ op (getD a (at + (i + k)) 0) (partner a (i + k)))
+        → ((k : ℕ) → k < c → getD t k 0 ≡ op (getD a (at + (n - c + k)) 0) (partner a (n - c + k)))
+        → Filled a b (at + i) (at + i + c) (λ (k : ℕ). getD s (k - (at + i)) 0)
+        → Filled b e (at + (n - c)) (at + (n - c) + c) (λ (k : ℕ). getD t (k - (at + (n - c))) 0)
+        → Filled g e at (at + n) (met op partner at g)
+    met-upward {g} c s t i f room near v w p q =
+        met-last g c t (n - c) (at + (n - c)) (met-late c t (n - c) f (le-refl at) (omega arith) (omega arith) (omega arith) w) q refl
+        (met-block c s i f room v p) (omega arith) (omega arith) (omega arith)
+
   -- ---- downward
 
   module _ (n : ℕ) (outlast : Outlasts partner at n) where
@@ -161,3 +173,14 @@ module _ (op : ℕ → ℕ → ℕ) (partner : List ℕ → ℕ → ℕ) (at : �
         v (x - (at + i)) (omega arith) ∙ met-is a (i + (x - (at + i))) x e ∙ met-behind x f (le-refl (at + n)) (omega arith) (omega arith)))
         (sym start))
         (omega arith) room
+
+    -- a row: the blocks from at + (i + c) on are done; then s at at + i and t, the first, are both made before either is stored
+    pub met-downward : {g a b e : List ℕ} {lo : ℕ} (c : ℕ) (s t : List ℕ) (i : ℕ) → Filled g a lo (at + n) (met op partner at g) → lo ≡ at + i + c → i + c ≤ n → i ≤ c
+        → ((k : ℕ) → k < c → getD s k 0 ≡ op (getD a (at + (i + k)) 0) (partner a (i + k)))
+        → ((k : ℕ) → k < c → getD t k 0 ≡ op (getD a (at + (0 + k)) 0) (partner a (0 + k)))
+        → Filled a b (at + i) (at + i + c) (λ (k : ℕ). getD s (k - (at + i)) 0)
+        → Filled b e at (at + c) (λ (k : ℕ). getD t (k - at) 0)
+        → Filled g e at (at + n) (met op partner at g)
+    met-downward {g} c s t i f start room near v w p q =
+        met-first g c t 0 at (met-early c t 0 f (le-refl (at + n)) (omega arith) w) q (omega arith)
+        (met-block-before c s i f start (omega arith) v p) (omega arith) (omega arith) (omega arith) refl

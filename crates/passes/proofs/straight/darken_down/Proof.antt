@@ -1,10 +1,8 @@
 -- By blocks, the last two of which overlap.
-use mathlib.Core.Path.{refl}
-use Prim.Native.Nat.{_+_, _-_, _*_, _/_, min}
-use native.Mathlib.Nat.{le-refl}
+use Prim.Native.Nat.{_-_, _*_, _/_, min}
 use native.Mathlib.Omega.{arith}
 use Rattle.passes.specs.Passes.{straight}
-use Rattle.passes.proofs.Blocks.{straight-outlasts, met-early, met-block-before, met-first}
+use Rattle.passes.proofs.Blocks.{straight-outlasts, met-downward}
 use borrow.Author.Needs.{needs}
 use Rattle.passes.proofs.straight.darken_down.Statement.{statement}
 use Rattle.passes.proofs.straight.darken_down.Tie as tie
@@ -52,10 +50,8 @@ returns c =
     let back = c .before .before .before .before .before .before .before .before .before .before .before .before .before .before .darken-down-blocks .ensures in
     let next = c .before .before .before .before .before .before .before .before .before .before .darker-block in
     let first = c .before .before .before .before .before .before .before .before .darker-block2 in
-    let earlier = met-early min partner (a .at) (a .n) stay 64 (first .result) 0 back (le-refl (a .at + a .n)) (omega arith) (first .ensures) in
-    let more = met-block-before min partner (a .at) (a .n) stay 64 (next .result) i back (omega arith) (omega arith) (next .ensures) (c .before .before .before .before .before .before .put-block .ensures) in
-    met-first min partner (a .at) (a .buf .now) 64 (first .result) 0 (a .at) earlier (c .before .before .put-block2 .ensures) (omega arith) more (omega arith) (omega arith)
-    (omega arith) refl
+    met-downward min partner (a .at) (a .n) stay 64 (next .result) (first .result) i back (omega arith) (omega arith) (omega arith) (next .ensures)
+    (first .ensures) (c .before .before .before .before .before .before .put-block .ensures) (c .before .before .put-block2 .ensures)
 
 pub darken-down-spec : {M : Type 1} → statement M
 darken-down-spec =

@@ -1,10 +1,8 @@
 -- By blocks, the last two of which overlap.
-use mathlib.Core.Path.{refl}
 use Prim.Native.Nat.{_-_, _*_, _/_, min}
-use native.Mathlib.Nat.{le-refl}
 use native.Mathlib.Omega.{arith}
 use Rattle.passes.specs.Passes.{straight}
-use Rattle.passes.proofs.Blocks.{straight-awaits, met-late, met-block, met-last}
+use Rattle.passes.proofs.Blocks.{straight-awaits, met-upward}
 use borrow.Author.Needs.{needs}
 use Rattle.passes.proofs.straight.darken_up.Statement.{statement}
 use Rattle.passes.proofs.straight.darken_up.Tie as tie
@@ -55,9 +53,8 @@ returns c =
     let front = c .before .before .before .before .before .before .before .before .before .before .before .before .before .before .darken-up-blocks .ensures in
     let next = c .before .before .before .before .before .before .before .before .before .before .darker-block in
     let last = c .before .before .before .before .before .before .before .before .darker-block2 in
-    let later = met-late min partner (a .at) (a .n) stay 64 (last .result) (a .n - 64) front (le-refl (a .at)) (omega arith) (omega arith) (omega arith) (last .ensures) in
-    let more = met-block min partner (a .at) (a .n) stay 64 (next .result) i front (omega arith) (next .ensures) (c .before .before .before .before .before .before .put-block .ensures) in
-    met-last min partner (a .at) (a .buf .now) 64 (last .result) (a .n - 64) _ later (c .before .before .put-block2 .ensures) refl more (omega arith) (omega arith) (omega arith)
+    met-upward min partner (a .at) (a .n) stay 64 (next .result) (last .result) i front (omega arith) (omega arith) (next .ensures) (last .ensures)
+    (c .before .before .before .before .before .before .put-block .ensures) (c .before .before .put-block2 .ensures)
 
 pub darken-up-spec : {M : Type 1} → statement M
 darken-up-spec =
