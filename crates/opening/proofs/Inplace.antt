@@ -1,16 +1,19 @@
--- A frame copied, and opened where it stands by passes over its rows (crate rows): that is the opened source, painted. The copy's rows may stand closer, or
+-- A frame copied, and opened where it stands by passes over its rows (crate rows): that is the opened source, painted; or opened beside one that it raises. The copy's rows may stand closer, or
 -- further apart, than those of the source.
+--   front-room         the part of an array that holds a row's marks
 --   copied             windows of one pixel copy a row
 --   copied-opened      an opened pixel depends on the pixels alone: the copy's is the source's
 --   opened-steep, opened-shallow    the copy, opened
+--   raised-beside      a frame raised by another, which is opened beside it
 -- Assumes nothing.
 use mathlib.Core.Path.{_≡_, refl, sym, ap, ap₂, _∙_}
 use mathlib.Core.Bool.{Bool, true, false}
 use mathlib.Core.List.{List, [], _∷_, map, List·Memᴰ, List·Memᴰ·head, List·Memᴰ·tail}
 use mathlib.Core.Logic.{⊎-elim}
-use Prim.Native.Nat.{ℕ, _+_, _-_, _≤_, _<_}
+use Prim.Native.Nat.{ℕ, _+_, _-_, _≤_, _<_, max}
 use native.Mathlib.Omega.{arith}
-use lib.ListN.{length, getD}
+use lib.ListN.{length, getD, take}
+use lib.Seq.{length-take-le}
 use Rattle.lists.proofs.Cases.{less-or-not}
 use Rattle.lists.proofs.Tables.{table-same}
 use Rattle.line.specs.Windows.{opened}
@@ -27,16 +30,20 @@ use Rattle.frame.specs.Sweep.{sweepOf, shift, value, Accepted}
 use Rattle.frame.proofs.Pixels.{its-line}
 use Rattle.frame.proofs.Walks.{hits, hit-at, hit-below, hit-past, value-on, value-off}
 use Rattle.frame.proofs.Alongs.{row-length, row-pixel}
-use Rattle.rows.specs.Rows.{spot as byteOf, laneAt, lane, OpensLines, OpensSteep, OpensShallow}
+use Rattle.rows.specs.Rows.{spot as byteOf, laneAt, lane, PixelsAre, OpensLines, OpensSteep, OpensShallow, RaisesFrame}
 use Rattle.rows.proofs.Lines.{lane-in, lane-left, lane-right}
 use Rattle.rows.proofs.Steeps.{steep-all}
 use Rattle.rows.proofs.Shallows.{shallow-all}
+use Rattle.rows.proofs.Raisings.{raise-all}
 use Rattle.strips.specs.Pixels as painted
 use Rattle.strips.specs.Pixels.{indexIn, openedPixel, Painted}
 use Rattle.strips.specs.Strips as strips
 use Rattle.strips.specs.Strips.{whole}
 use Rattle.strips.proofs.Bridge.{spot-of, spot-cell, opened-spot}
 use Rattle.strips.proofs.Paintings.{painted-as, painted-again}
+
+pub front-room : (k : ℕ) (xs : List ℕ) → k ≤ length xs → k ≤ length (take k xs)
+front-room k xs fit = omega (arith, length-take-le k xs fit)
 
 copied-pixel : (f : List ℕ) (sh : Shape) (x y : ℕ) → isFrame sh ≡ true → needed sh ≤ length f → x < sh .width → y < sh .height
     → getD (opened (rowOf f sh y) 1) x 0 ≡ getD f (place sh (at x y)) 0
@@ -82,23 +89,50 @@ module _ (sh : Shape) (d : Direction) where
         (less-or-not u (shift s j + s .minors)))
         (less-or-not u (shift s j)))
 
-    opened-in-place : {g g′ : List ℕ} (L : ℕ) → 1 ≤ L → OpensLines (sweepOf sh d) L g g′ → Painted sh (openedPixel g sh d L) g g′
-    unfolding sweep.cell strips.openedOn
-    opened-in-place {g} {g′} L some o =
+    -- a frame known by its lines, pixel by pixel
+    by-pixels : {F : ℕ → ℕ → ℕ} {g g′ : List ℕ} (G : ℕ → ℕ → ℕ) → PixelsAre (byteOf (sweepOf sh d)) (sweepOf sh d .majors) (sweepOf sh d .minors) F g g′
+        → ((x y : ℕ) → (h : x < sh .width) → (l : y < sh .height)
+        → F (spot-of sh d ok x y h l .i) (spot-of sh d ok x y h l .u - shift (sweepOf sh d) (spot-of sh d ok x y h l .i)) ≡ G x y)
+        → Painted sh G g g′
+    unfolding sweep.cell
+    by-pixels {F} {g} {g′} G o same =
         record {
           same = o .same;
           pixels = λ x y h l.
-              let s = sweepOf sh d in
               let p = spot-of sh d ok x y h l in
-              let on = hits s (p .u) (p .i) (p .on) in
-              let back : p .u - shift s (p .i) + shift s (p .i) ≡ p .u = omega arith in
+              let on = hits (sweepOf sh d) (p .u) (p .i) (p .on) in
               sym (ap (λ (k : ℕ). getD g′ k 0) (spot-cell p))
-              ∙ o .within (p .i) (p .u - shift s (p .i)) (p .below) (omega arith)
-              ∙ ap (λ (v : ℕ). getD (opened (lane (shift s) (byteOf s) (s .minors) (s .majors) g v) L) (p .i) 0) back
-              ∙ ap (λ (t : List ℕ). getD (opened t L) (p .i) 0) (lane-is g (p .u))
-              ∙ sym (opened-spot sh d ok g L some p);
+              ∙ o .within (p .i) (p .u - shift (sweepOf sh d) (p .i)) (p .below) (omega arith)
+              ∙ same x y h l;
           gaps = λ k none. o .other k (λ i j h n e. let p = pixel-at i j h n in none (p .x) (p .y) (p .wide) (p .high) (e ∙ p .is));
         }
+
+    -- an opened line's value is the opened pixel's
+    line-pixel : (f : List ℕ) (L : ℕ) → 1 ≤ L → (x y : ℕ) (h : x < sh .width) (l : y < sh .height)
+        → getD (opened (lane (shift (sweepOf sh d)) (byteOf (sweepOf sh d)) (sweepOf sh d .minors) (sweepOf sh d .majors) f
+        (spot-of sh d ok x y h l .u - shift (sweepOf sh d) (spot-of sh d ok x y h l .i) + shift (sweepOf sh d) (spot-of sh d ok x y h l .i))) L)
+        (spot-of sh d ok x y h l .i) 0 ≡ openedPixel f sh d L x y
+    unfolding strips.openedOn
+    line-pixel f L some x y h l =
+        let s = sweepOf sh d in
+        let p = spot-of sh d ok x y h l in
+        let on = hits s (p .u) (p .i) (p .on) in
+        let back : p .u - shift s (p .i) + shift s (p .i) ≡ p .u = omega arith in
+        ap (λ (v : ℕ). getD (opened (lane (shift s) (byteOf s) (s .minors) (s .majors) f v) L) (p .i) 0) back
+        ∙ ap (λ (t : List ℕ). getD (opened t L) (p .i) 0) (lane-is f (p .u))
+        ∙ sym (opened-spot sh d ok f L some p)
+
+    opened-in-place : {g g′ : List ℕ} (L : ℕ) → 1 ≤ L → OpensLines (sweepOf sh d) L g g′ → Painted sh (openedPixel g sh d L) g g′
+    opened-in-place {g} L some o = by-pixels (openedPixel g sh d L) o (line-pixel g L some)
+
+    pub raised-beside : {w w′ m m′ g g′ : List ℕ} (f : List ℕ) (L : ℕ) → 1 ≤ L → needed sh ≤ length f → needed sh ≤ length w → sh .width ≤ length m
+        → needed sh ≤ length g → RaisesFrame sh d L f w w′ m m′ g g′
+        → Painted sh (λ (x y : ℕ). max (getD g (place sh (at x y)) 0) (openedPixel f sh d L x y)) g g′
+    unfolding sweep.cell
+    raised-beside {w} {w′} {m} {m′} {g} f L some source room marks target o =
+        by-pixels (λ (x y : ℕ). max (getD g (place sh (at x y)) 0) (openedPixel f sh d L x y))
+        (o .done (raise-all ok L f g (length w) (length m) some source room marks target))
+        (λ x y h l. ap₂ max (ap (λ (k : ℕ). getD g k 0) (spot-cell (spot-of sh d ok x y h l))) (line-pixel f L some x y h l))
 
 -- ---- the copy, whose rows stand `stride` apart
 

@@ -40,7 +40,7 @@ fn highest_into(src: &[u8], shape: Shape, length: usize, dst: &mut [u8], scratch
 }
 
 // The greatest, at each pixel of the frame src, of its openings with windows of `length` pixels in the sixteen numbered directions, into the frame dst.
-// Hands back 0. Rules 1, 3, 5, 6, 7. Where scratch has width·height bytes, which rule 7 does not ask for, it is several times as fast.
+// Hands back 0. Rules 1, 3, 5, 6, 7. Where scratch has as many bytes as the frame, which rule 7 does not ask for, it is several times as fast.
 pub fn highest(
     src: &[u8],
     shape: Shape,

@@ -11,6 +11,10 @@
 --   met-late, met-early              a block made in the course of a pass is as one made where it began: upward, and downward
 --   met-last, met-first              a block stored over some of the others
 --   met-upward, met-downward         a row by blocks, the last two of which overlap
+-- From the buffer g into another:
+--   into-block, raise-block          a block made of g, stored there, or raising what is there
+--   raise-more                       one block more
+--   into-over, raise-over            a row by blocks, the last of which came first
 -- Assumes nothing.
 use mathlib.Core.Path.{_≡_, refl, sym, ap, ap₂, _∙_}
 use mathlib.Core.Bool.{Bool, true, false, cond}
@@ -184,3 +188,56 @@ module _ (op : ℕ → ℕ → ℕ) (partner : List ℕ → ℕ → ℕ) (at : �
     met-downward {g} c s t i f start room near v w p q =
         met-first g c t 0 at (met-early c t 0 f (le-refl (at + n)) (omega arith) w) q (omega arith)
         (met-block-before c s i f start (omega arith) v p) (omega arith) (omega arith) (omega arith) refl
+
+-- ---- from the buffer g into another
+
+module _ (op : ℕ → ℕ → ℕ) (partner : List ℕ → ℕ → ℕ) (at : ℕ) (g t : List ℕ) (i : ℕ)
+    (v : (k : ℕ) → k < 64 → getD t k 0 ≡ op (getD g (at + (i + k)) 0) (partner g (i + k))) where
+  block-made : (x : ℕ) → at + i ≤ x → x < at + i + 64 → getD t (x - (at + i)) 0 ≡ met op partner at g x
+  block-made x l h =
+      let e : at + (i + (x - (at + i))) ≡ x = omega arith in
+      v (x - (at + i)) (omega arith) ∙ met-is op partner at g (i + (x - (at + i))) x e
+
+  pub into-block : {a b : List ℕ} → Filled a b (at + i) (at + i + 64) (λ (x : ℕ). getD t (x - (at + i)) 0) → Filled a b (at + i) (at + i + 64) (met op partner at g)
+  into-block f = filled-as f (met op partner at g) block-made
+
+  pub raise-block : {a b : List ℕ} → Filled a b (at + i) (at + i + 64) (λ (x : ℕ). max (getD a x 0) (getD t (x - (at + i)) 0))
+      → Filled a b (at + i) (at + i + 64) (λ (x : ℕ). max (getD a x 0) (met op partner at g x))
+  raise-block {a} f = filled-as f (λ (x : ℕ). max (getD a x 0) (met op partner at g x)) (λ x l h. ap (max (getD a x 0)) (block-made x l h))
+
+pub raise-more : {d a b : List ℕ} {lo mid hi : ℕ} (G : ℕ → ℕ) → Filled d a lo mid (λ (x : ℕ). max (getD d x 0) (G x))
+    → Filled a b mid hi (λ (x : ℕ). max (getD a x 0) (G x)) → lo ≤ mid → mid ≤ hi → Filled d b lo hi (λ (x : ℕ). max (getD d x 0) (G x))
+raise-more {d} G f p low high =
+    filled-join f (filled-as p (λ (x : ℕ). max (getD d x 0) (G x)) (λ x l h. ap (λ (y : ℕ). max y (G x)) (f .above x l))) low high
+
+-- from lo to mid, where from late on, late no further than mid, it was done before
+pub into-over : {d a b : List ℕ} {lo late mid hi : ℕ} {F : ℕ → ℕ} → Filled d a late hi F → Filled a b lo mid F → lo ≤ late → late ≤ mid → mid ≤ hi → Filled d b lo hi F
+into-over {lo = lo} {mid = mid} f p low some high =
+    record {
+      same = p .same ∙ f .same;
+      within = λ x l h. ⊎-elim (λ q. p .within x l q) (λ q. p .above x q ∙ f .within x (omega arith) h) (less-or-not x mid);
+      below = λ x l. p .below x l ∙ f .below x (omega arith);
+      above = λ x l. p .above x (omega arith) ∙ f .above x l;
+    }
+
+raised-twice : (u v w : ℕ) → w ≡ max u v → max w v ≡ max u v
+raised-twice u v w e = omega arith
+
+pub raise-over : {d a b : List ℕ} {lo late mid hi : ℕ} (G : ℕ → ℕ) → Filled d a late hi (λ (x : ℕ). max (getD d x 0) (G x))
+    → Filled a b lo mid (λ (x : ℕ). max (getD a x 0) (G x)) → lo ≤ late → late ≤ mid → mid ≤ hi → Filled d b lo hi (λ (x : ℕ). max (getD d x 0) (G x))
+raise-over {d} {lo = lo} {late = late} {mid = mid} G f p low some high =
+    record {
+      same = p .same ∙ f .same;
+      within = λ x l h.
+          ⊎-elim
+          (λ q.
+          p .within x l q
+          ∙ ⊎-elim
+          (λ before. ap (λ (y : ℕ). max y (G x)) (f .below x before))
+          (λ from. raised-twice (getD d x 0) (G x) _ (f .within x from h))
+          (less-or-not x late))
+          (λ q. p .above x q ∙ f .within x (omega arith) h)
+          (less-or-not x mid);
+      below = λ x l. p .below x l ∙ f .below x (omega arith);
+      above = λ x l. p .above x (omega arith) ∙ f .above x l;
+    }

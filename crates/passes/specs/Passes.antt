@@ -1,4 +1,4 @@
--- What a pass over n bytes of a buffer leaves. Each byte meets its partner, which stands in the same buffer.
+-- What a pass over n bytes of a buffer leaves. Each byte meets its partner, which stands in the same buffer; what they make stands there too, or in another.
 --   straight from g j          byte j of the row that starts at `from`
 --   bent m near far g j        byte j of one of two rows: of the one at `near` where the mark j of m is 0, else of the one at `far`
 --   met op partner at g x      what byte x becomes, in a row that starts at `at`: op of it and of its partner
@@ -9,6 +9,8 @@
 --   Darkens, Brightens         `darken` and `brighten`: where the rows fit, each byte meets its partner; else nothing changes
 --   DarkensBent, BrightensBent `darken_bent` and `brighten_bent`: the same with a partner in one of two rows
 --   Clears, ClearsBent         `blacken` and `blacken_bent`: bytes become 0, all of them or the marked ones
+--   DarkensInto, DarkensBentInto   `darken_into` and `darken_bent_into`: bytes of one buffer meet their partners there, and another gets the darker ones
+--   Raises, RaisesBent         `raise` and `raise_bent`: likewise with the brighter ones, where they are brighter than what stands there
 --   Copies                     `copy`: the first bytes of one slice come to the front of another
 -- Laws: passes/proofs/Blocks.
 use mathlib.Core.Path.{_≡_}
@@ -71,3 +73,22 @@ pub record ClearsBent (m : List ℕ) (at n : ℕ) (before after : List ℕ) : Ty
 pub record Copies (src : List ℕ) (n : ℕ) (before after : List ℕ) : Type 0 where
   pub done : n ≤ length src → n ≤ length before → Filled before after 0 n (λ (k : ℕ). getD src k 0)
   pub none : (n ≤ length src → n ≤ length before → ⊥) → after ≡ before
+
+pub record DarkensInto (src : List ℕ) (at from n : ℕ) (before after : List ℕ) : Type 0 where
+  pub done : at + n ≤ length src → from + n ≤ length src → at + n ≤ length before → Filled before after at (at + n) (met min (straight from) at src)
+  pub none : (at + n ≤ length src → from + n ≤ length src → at + n ≤ length before → ⊥) → after ≡ before
+
+pub record DarkensBentInto (src m : List ℕ) (at near far n : ℕ) (before after : List ℕ) : Type 0 where
+  pub done : at + n ≤ length src → near + n ≤ length src → far + n ≤ length src → n ≤ length m → at + n ≤ length before
+      → Filled before after at (at + n) (met min (bent m near far) at src)
+  pub none : (at + n ≤ length src → near + n ≤ length src → far + n ≤ length src → n ≤ length m → at + n ≤ length before → ⊥) → after ≡ before
+
+pub record Raises (src : List ℕ) (at from n : ℕ) (before after : List ℕ) : Type 0 where
+  pub done : at + n ≤ length src → from + n ≤ length src → at + n ≤ length before
+      → Filled before after at (at + n) (λ (x : ℕ). max (getD before x 0) (met max (straight from) at src x))
+  pub none : (at + n ≤ length src → from + n ≤ length src → at + n ≤ length before → ⊥) → after ≡ before
+
+pub record RaisesBent (src m : List ℕ) (at near far n : ℕ) (before after : List ℕ) : Type 0 where
+  pub done : at + n ≤ length src → near + n ≤ length src → far + n ≤ length src → n ≤ length m → at + n ≤ length before
+      → Filled before after at (at + n) (λ (x : ℕ). max (getD before x 0) (met max (bent m near far) at src x))
+  pub none : (at + n ≤ length src → near + n ≤ length src → far + n ≤ length src → n ≤ length m → at + n ≤ length before → ⊥) → after ≡ before

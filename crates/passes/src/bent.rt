@@ -26,14 +26,14 @@ fn if_marked(m: u8, x: u8) -> u8
 }
 
 // Of two bytes the one that the mark m names. Marks follow no pattern that a processor could foresee, so both bytes are taken, one of them as 0, and nothing branches.
-fn either(m: u8, near: u8, far: u8) -> u8
+pub(crate) fn either(m: u8, near: u8, far: u8) -> u8
     ensures { λ r. ⌜ r ≡ cond (eqb m 0) near far ⌝ }
 {
     brighter(unless_marked(m, near), if_marked(m, far))
 }
 
 // The darker of each byte and its partner, for the block that begins i bytes into the rows.
-fn darker_bent_block(
+pub(crate) fn darker_bent_block(
     buf: &[u8],
     bends: &[u8],
     at: usize,
@@ -176,7 +176,7 @@ pub fn darken_bent(buf: &mut [u8], bends: &[u8], at: usize, near: usize, far: us
 }
 
 // The brighter of each byte and its partner, for the block that begins i bytes into the rows.
-fn brighter_bent_block(
+pub(crate) fn brighter_bent_block(
     buf: &[u8],
     bends: &[u8],
     at: usize,

@@ -26,3 +26,15 @@ pub(crate) fn put_block(buf: &mut [u8], at: usize, t: [u8; 64])
         j += 1;
     }
 }
+
+// Each of the 64 bytes from `at` on becomes the brighter of itself and that of t.
+pub(crate) fn raise_block(buf: &mut [u8], at: usize, t: [u8; 64])
+    requires { ⌜ at + 64 ≤ length (now buf) ⌝ }
+    ensures { λ _. ⌜ Filled (now (buf .entry)) (now (buf .exit)) at (at + 64) (λ (x : ℕ). max (getD (now (buf .entry)) x 0) (getD t (x - at) 0)) ⌝ }
+{
+    let mut j = 0;
+    while j < 64 {
+        buf[at + j] = brighter(buf[at + j], t[j]);
+        j += 1;
+    }
+}

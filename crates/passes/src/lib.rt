@@ -1,9 +1,10 @@
-// Passes over bytes, in place: each byte meets another at its place in a second row, and becomes the darker or the brighter of the two. This is where
+// Passes over bytes: each byte meets another at its place in a second row, and becomes the darker or the brighter of the two. This is where
 // the time of an opening goes, so the loops are flat, go by blocks, and compile to vector instructions. Every call is total: it tests once what its loops
 // rely on, and changes nothing where that is not so.
 mod bent;
 mod block;
 mod fill;
+mod into;
 mod reach;
 mod straight;
 
@@ -12,5 +13,9 @@ pub use bent::brighten_bent;
 pub use bent::darken_bent;
 pub use fill::blacken;
 pub use fill::copy;
+pub use into::darken_bent_into;
+pub use into::darken_into;
+pub use into::raise;
+pub use into::raise_bent;
 pub use straight::brighten;
 pub use straight::darken;

@@ -13,7 +13,7 @@ ghost use Rattle.lists.specs.Stores.{Filled};
 ghost use Rattle.passes.specs.Passes.{straight, met, Upward, Downward, Darkens, Brightens};
 
 // The darker of each byte and its partner, for the block that begins i bytes into the rows.
-fn darker_block(buf: &[u8], at: usize, from: usize, i: usize) -> [u8; 64]
+pub(crate) fn darker_block(buf: &[u8], at: usize, from: usize, i: usize) -> [u8; 64]
     requires { ⌜ (at + i + 64 ≤ length (now buf)) × (from + i + 64 ≤ length (now buf)) ⌝ }
     ensures { λ t. ⌜ ((k : ℕ) → k < 64 → getD t k 0 ≡ min (getD (now (buf .entry)) (at + (i + k)) 0) (straight from (now (buf .entry)) (i + k))) ⌝ }
 {
@@ -123,7 +123,7 @@ pub fn darken(buf: &mut [u8], at: usize, from: usize, n: usize)
 }
 
 // The brighter of each byte and its partner, for the block that begins i bytes into the rows.
-fn brighter_block(buf: &[u8], at: usize, from: usize, i: usize) -> [u8; 64]
+pub(crate) fn brighter_block(buf: &[u8], at: usize, from: usize, i: usize) -> [u8; 64]
     requires { ⌜ (at + i + 64 ≤ length (now buf)) × (from + i + 64 ≤ length (now buf)) ⌝ }
     ensures { λ t. ⌜ ((k : ℕ) → k < 64 → getD t k 0 ≡ max (getD (now (buf .entry)) (at + (i + k)) 0) (straight from (now (buf .entry)) (i + k))) ⌝ }
 {

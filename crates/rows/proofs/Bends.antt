@@ -7,6 +7,7 @@
 --   bends-more                        one mark more
 --   bends-front                       the marks alone, at the front of a longer list
 --   bends-none                        nothing over: no column bends
+--   rise-step                         one column makes at most one row
 --   marks-fit, marked-by              the marks of a pass have room, and are as many as it needs
 -- Assumes nothing.
 use mathlib.Core.Path.{_≡_, sym, ap, _∙_, subst}
@@ -14,7 +15,7 @@ use mathlib.Core.Bool.{Bool, cond}
 use mathlib.Core.List.{List, []}
 use mathlib.Core.Logic.{_⊎_, inl, inr, ⊎-elim}
 use Prim.Native.Nat.{ℕ, _+_, _-_, _*_, _/_, _%_, _≤_, _<_}
-use native.Mathlib.Nat.{eq-or-lt-of-le, add-mul, mul-add, mul-assoc, mul-comm, mul-le-mul, one-mul, div-add-mod', mod-lt, add-mul-div-right, div-eq-of-lt}
+use native.Mathlib.Nat.{eq-or-lt-of-le, add-mul, mul-add, mul-assoc, mul-comm, mul-le-mul, mul-le-mul-right, one-mul, div-add-mod', mod-lt, add-mul-div-right, div-eq-of-lt}
 use native.Mathlib.Omega.{arith}
 use lib.Dec.{eqb, ltb}
 use lib.ListN.{length, getD, set, take}
@@ -107,6 +108,13 @@ bends-none a b e d n some rows nothing x h =
     ∙ ap (λ (t : Bool). r a b x + cond (eqb (cond t 0 1) 0) d (d + 1)) (lt-ltb _ (2 * a) (omega (arith, p .below)))
 
 -- k marks, none or one for each of n columns
+pub rise-step : (b a : ℕ) → 1 ≤ a → b ≤ a → b / a ≤ 1
+rise-step b a some slow =
+    ⊎-elim
+    (λ q. omega arith)
+    (λ q. let two : 2 * a ≤ b / a * a = mul-le-mul-right a q in absurd (omega (arith, div-add-mod' b a)))
+    (less-or-not (b / a) 2)
+
 pub marks-fit : {k n m : ℕ} → (k ≡ 0) ⊎ (k ≡ n) → n ≤ m → k ≤ m
 marks-fit marks room = ⊎-elim (λ none. omega arith) (λ all. omega arith) marks
 

@@ -3,8 +3,11 @@
 --   gone-right, gone-left                      no line of the row is in the frame there
 --   erode-right, erode-left, erode-gone        an erosion's row, where the lines go on to the right, to the left, or out of the frame
 --   dilate-right, dilate-left, dilate-gone     a dilation's row, likewise
+--   first-right, first-left, first-gone        an erosion's row that goes into another buffer
+--   raise-right, raise-left, raise-gone        a dilation's row that raises the one at its place in another buffer
+--   raise-alone                                likewise where there is no other row
 -- Assumes nothing.
-use mathlib.Core.Path.{_≡_, refl, sym, ap, _∙_}
+use mathlib.Core.Path.{_≡_, refl, sym, ap, ap₂, _∙_}
 use mathlib.Core.List.{List}
 use mathlib.Core.Logic.{inl, ⊎-elim}
 use Prim.Native.Nat.{ℕ, _+_, _-_, _≤_, _<_, min, max}
@@ -13,7 +16,7 @@ use lib.ListN.{length, getD}
 use borrow.Author.Tests.{le-leb, lt-leb, lt-ltb, le-ltb}
 use Rattle.lists.specs.Stores.{Filled}
 use Rattle.lists.proofs.Cases.{less-or-not}
-use Rattle.passes.specs.Passes.{straight, met, Darkens, Brightens, Clears}
+use Rattle.passes.specs.Passes.{straight, met, Darkens, Brightens, Clears, DarkensInto, Raises}
 use Rattle.rows.specs.Rows.{beside}
 
 module _ (g : List ℕ) (from n a b : ℕ) where
@@ -147,3 +150,145 @@ dilate-gone g at n from a b none =
       below = λ x l. refl;
       above = λ x l. refl;
     }
+
+-- ---- the first pass of an erosion: the rows are those of g, and d gets what they make
+
+module _ {g d d₁ d₂ : List ℕ} (at n below a b δ : ℕ) (room : at + below + n ≤ length g) (fits : at + n ≤ length d) (near : δ < n) where
+  pub first-right : a ≡ b + δ → DarkensInto g at (at + (below + δ)) (n - δ) d d₁ → Clears (at + (n - δ)) δ d₁ d₂
+      → Filled d d₂ at (at + n) (λ (x : ℕ). min (getD g x 0) (beside g (at + below) n a b (x - at)))
+  first-right right dark clear =
+      let f : Filled d d₁ at (at + (n - δ)) (met min (straight (at + (below + δ))) at g) = dark .done (omega arith) (omega arith) (omega arith) in
+      let c : Filled d₁ d₂ (at + (n - δ)) (at + (n - δ) + δ) (λ (k : ℕ). 0) = clear .done (omega (arith, f .same)) in
+      record {
+        same = c .same ∙ f .same;
+        within = λ x l h.
+            ⊎-elim
+            (λ in′.
+            let e : at + (below + δ) + (x - at) ≡ at + below + (x - at + a - b) = omega arith in
+            c .below x in′
+            ∙ f .within x l in′
+            ∙ ap (min (getD g x 0)) (ap (λ (y : ℕ). getD g y 0) e ∙ sym (beside-in g (at + below) n a b (x - at) (omega arith) (omega arith))))
+            (λ out. c .within x out (omega arith) ∙ min-zero (getD g x 0) _ (beside-right g (at + below) n a b (x - at) (omega arith) (omega arith)))
+            (less-or-not x (at + (n - δ)));
+        below = λ x l. c .below x (omega arith) ∙ f .below x l;
+        above = λ x l. c .above x (omega arith) ∙ f .above x (omega arith);
+      }
+
+  pub first-left : b ≡ a + δ → DarkensInto g (at + δ) (at + below) (n - δ) d d₁ → Clears at δ d₁ d₂
+      → Filled d d₂ at (at + n) (λ (x : ℕ). min (getD g x 0) (beside g (at + below) n a b (x - at)))
+  first-left left dark clear =
+      let f : Filled d d₁ (at + δ) (at + δ + (n - δ)) (met min (straight (at + below)) (at + δ) g) =
+      dark .done (omega arith) (omega arith) (omega arith) in
+      let c : Filled d₁ d₂ at (at + δ) (λ (k : ℕ). 0) = clear .done (omega (arith, f .same)) in
+      record {
+        same = c .same ∙ f .same;
+        within = λ x l h.
+            ⊎-elim
+            (λ out. c .within x l out ∙ min-zero (getD g x 0) _ (beside-left g (at + below) n a b (x - at) (omega arith)))
+            (λ in′.
+            let e : at + below + (x - (at + δ)) ≡ at + below + (x - at + a - b) = omega arith in
+            c .above x in′
+            ∙ f .within x in′ (omega arith)
+            ∙ ap (min (getD g x 0)) (ap (λ (y : ℕ). getD g y 0) e ∙ sym (beside-in g (at + below) n a b (x - at) (omega arith) (omega arith))))
+            (less-or-not x (at + δ));
+        below = λ x l. c .below x l ∙ f .below x (omega arith);
+        above = λ x l. c .above x (omega arith) ∙ f .above x (omega arith);
+      }
+
+pub first-gone : {d d₁ : List ℕ} (g : List ℕ) (at n from a b : ℕ) → at + n ≤ length d → ((k : ℕ) → k < n → beside g from n a b k ≡ 0) → Clears at n d d₁
+    → Filled d d₁ at (at + n) (λ (x : ℕ). min (getD g x 0) (beside g from n a b (x - at)))
+first-gone {d} {d₁} g at n from a b fits none clear =
+    let c : Filled d d₁ at (at + n) (λ (k : ℕ). 0) = clear .done fits in
+    record {
+      same = c .same;
+      within = λ x l h. c .within x l h ∙ min-zero (getD g x 0) _ (none (x - at) (omega arith));
+      below = c .below;
+      above = c .above;
+    }
+
+-- ---- the last pass of a dilation: the rows are those of g, and d is raised to what they make
+
+-- a pixel that is its own partner, in a buffer that has not changed there
+unmet : (d d′ v v′ y : ℕ) → d′ ≡ d → v′ ≡ v → y ≡ 0 → max d′ (max v v′) ≡ max d (max v y)
+unmet d d′ v v′ y e e′ dark = omega arith
+
+module _ {g d d₁ d₂ : List ℕ} (from n above a b δ : ℕ) (room : from + above + n ≤ length g) (fits : from + above + n ≤ length d) (near : δ < n) where
+  pub raise-right : a ≡ b + δ → Raises g (from + above) (from + δ) (n - δ) d d₁ → Raises g (from + above + (n - δ)) (from + above + (n - δ)) δ d₁ d₂
+      → Filled d d₂ (from + above) (from + above + n) (λ (x : ℕ). max (getD d x 0) (max (getD g x 0) (beside g from n a b (x - (from + above)))))
+  raise-right right meet rest =
+      let at = from + above in
+      let f : Filled d d₁ at (at + (n - δ)) (λ (x : ℕ). max (getD d x 0) (met max (straight (from + δ)) at g x)) =
+      meet .done (omega arith) (omega arith) (omega arith) in
+      let o : Filled d₁ d₂ (at + (n - δ)) (at + (n - δ) + δ) (λ (x : ℕ). max (getD d₁ x 0) (met max (straight (at + (n - δ))) (at + (n - δ)) g x)) =
+      rest .done (omega arith) (omega arith) (omega (arith, f .same)) in
+      record {
+        same = o .same ∙ f .same;
+        within = λ x l h.
+            ⊎-elim
+            (λ in′.
+            let e : from + δ + (x - at) ≡ from + (x - at + a - b) = omega arith in
+            o .below x in′
+            ∙ f .within x l in′
+            ∙ ap (λ (v : ℕ). max (getD d x 0) (max (getD g x 0) v))
+            (ap (λ (y : ℕ). getD g y 0) e ∙ sym (beside-in g from n a b (x - at) (omega arith) (omega arith))))
+            (λ out.
+            let e : at + (n - δ) + (x - (at + (n - δ))) ≡ x = omega arith in
+            o .within x out (omega arith)
+            ∙ unmet (getD d x 0) _ (getD g x 0) _ _ (f .above x out) (ap (λ (y : ℕ). getD g y 0) e)
+            (beside-right g from n a b (x - at) (omega arith) (omega arith)))
+            (less-or-not x (at + (n - δ)));
+        below = λ x l. o .below x (omega arith) ∙ f .below x l;
+        above = λ x l. o .above x (omega arith) ∙ f .above x (omega arith);
+      }
+
+  pub raise-left : b ≡ a + δ → Raises g (from + above) (from + above) δ d d₁ → Raises g (from + above + δ) from (n - δ) d₁ d₂
+      → Filled d d₂ (from + above) (from + above + n) (λ (x : ℕ). max (getD d x 0) (max (getD g x 0) (beside g from n a b (x - (from + above)))))
+  raise-left left rest meet =
+      let at = from + above in
+      let o : Filled d d₁ at (at + δ) (λ (x : ℕ). max (getD d x 0) (met max (straight at) at g x)) =
+      rest .done (omega arith) (omega arith) (omega arith) in
+      let f : Filled d₁ d₂ (at + δ) (at + δ + (n - δ)) (λ (x : ℕ). max (getD d₁ x 0) (met max (straight from) (at + δ) g x)) =
+      meet .done (omega arith) (omega arith) (omega (arith, o .same)) in
+      record {
+        same = f .same ∙ o .same;
+        within = λ x l h.
+            ⊎-elim
+            (λ out.
+            let e : at + (x - at) ≡ x = omega arith in
+            f .below x out
+            ∙ o .within x l out
+            ∙ unmet (getD d x 0) _ (getD g x 0) _ _ refl (ap (λ (y : ℕ). getD g y 0) e) (beside-left g from n a b (x - at) (omega arith)))
+            (λ in′.
+            let e : from + (x - (at + δ)) ≡ from + (x - at + a - b) = omega arith in
+            f .within x in′ (omega arith)
+            ∙ ap₂ (λ (v w : ℕ). max v (max (getD g x 0) w)) (o .above x in′)
+            (ap (λ (y : ℕ). getD g y 0) e ∙ sym (beside-in g from n a b (x - at) (omega arith) (omega arith))))
+            (less-or-not x (at + δ));
+        below = λ x l. f .below x (omega arith) ∙ o .below x l;
+        above = λ x l. f .above x (omega arith) ∙ o .above x (omega arith);
+      }
+
+module _ {g d d₁ : List ℕ} (at n : ℕ) (room : at + n ≤ length g) (fits : at + n ≤ length d) where
+  pub raise-alone : Raises g at at n d d₁ → Filled d d₁ at (at + n) (λ (x : ℕ). max (getD d x 0) (getD g x 0))
+  raise-alone alone =
+      let o : Filled d d₁ at (at + n) (λ (x : ℕ). max (getD d x 0) (met max (straight at) at g x)) = alone .done room room fits in
+      record {
+        same = o .same;
+        within = λ x l h.
+            let e : at + (x - at) ≡ x = omega arith in
+            let own : max (getD g x 0) (getD g x 0) ≡ getD g x 0 = omega arith in
+            o .within x l h ∙ ap (max (getD d x 0)) (ap (λ (y : ℕ). max (getD g x 0) (getD g y 0)) e ∙ own);
+        below = o .below;
+        above = o .above;
+      }
+
+  pub raise-gone : (from a b : ℕ) → ((k : ℕ) → k < n → beside g from n a b k ≡ 0) → Raises g at at n d d₁
+      → Filled d d₁ at (at + n) (λ (x : ℕ). max (getD d x 0) (max (getD g x 0) (beside g from n a b (x - at))))
+  raise-gone from a b none alone =
+      let o : Filled d d₁ at (at + n) (λ (x : ℕ). max (getD d x 0) (getD g x 0)) = raise-alone alone in
+      record {
+        same = o .same;
+        within = λ x l h. o .within x l h ∙ ap (max (getD d x 0)) (max-zero (getD g x 0) _ (none (x - at) (omega arith)));
+        below = o .below;
+        above = o .above;
+      }

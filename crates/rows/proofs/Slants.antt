@@ -17,6 +17,7 @@
 --   erode-more, dilate-more    one row more
 --   cleared-lines              a frame whose rows are all 0
 --   eroded-lines, dilated-lines    the pass, for every line
+--   raised-lines               the same of the last pass of a dilation, where it raises another frame
 -- Assumes nothing.
 use mathlib.Core.Path.{_≡_, refl, sym, ap, ap₂, _∙_, subst}
 use mathlib.Core.Bool.{Bool, true, false, not, cond}
@@ -127,11 +128,11 @@ module _ (s : Sweep) (flat : s .major ≡ 1) where
 
 -- ---- one row's part of a pass, in a buffer g
 
-bool-cases : (P : Bool → Type 0) (b : Bool) → (b ≡ true → P true) → (b ≡ false → P false) → P b
+pub bool-cases : (P : Bool → Type 0) (b : Bool) → (b ≡ true → P true) → (b ≡ false → P false) → P b
 bool-cases P true yes′ no′ = yes′ refl
 bool-cases P false yes′ no′ = no′ refl
 
-min-zero : (x y : ℕ) → y ≡ 0 → 0 ≡ min x y
+pub min-zero : (x y : ℕ) → y ≡ 0 → 0 ≡ min x y
 min-zero x y e = omega arith
 
 max-zero : (x y : ℕ) → y ≡ 0 → x ≡ max x y
@@ -141,30 +142,30 @@ rows-on-least : (d : ℕ) (m : List ℕ) (x : ℕ) → d ≤ rowsOn d m x
 rows-on-least d m x = bool-cases (λ (b : Bool). d ≤ cond b d (d + 1)) (eqb (getD m x 0) 0) (λ e. le-refl d) (λ e. omega arith)
 
 module _ (s : Sweep) (up : Bool) (m : List ℕ) (e d : ℕ) (g : List ℕ) (t : ℕ) where
-  onward-out : (x : ℕ) → s .majors ≤ x + e → onward s up m e d g t x ≡ 0
+  pub onward-out : (x : ℕ) → s .majors ≤ x + e → onward s up m e d g t x ≡ 0
   unfolding onward
   onward-out x out = rw (le-ltb (x + e) (s .majors) out)
 
-  onward-in : (x : ℕ) → x + e < s .majors → onward s up m e d g t x ≡ aheadAt up (s .minors) (s .minor) g t (x + e) (rowsOn d m x)
+  pub onward-in : (x : ℕ) → x + e < s .majors → onward s up m e d g t x ≡ aheadAt up (s .minors) (s .minor) g t (x + e) (rowsOn d m x)
   unfolding onward
   onward-in x in′ = rw (lt-ltb (x + e) (s .majors) in′)
 
-  onward-gone : (x : ℕ) → s .minors ≤ t + d → onward s up m e d g t x ≡ 0
+  pub onward-gone : (x : ℕ) → s .minors ≤ t + d → onward s up m e d g t x ≡ 0
   onward-gone x gone =
       ⊎-elim
       (λ in′. onward-in x in′ ∙ ahead-out up (s .minors) (s .minor) g t (x + e) (rowsOn d m x) (omega (arith, rows-on-least d m x)))
       (onward-out x)
       (less-or-not (x + e) (s .majors))
 
-  backward-out : (x : ℕ) → x < e → backward s up m e d g t x ≡ 0
+  pub backward-out : (x : ℕ) → x < e → backward s up m e d g t x ≡ 0
   unfolding backward
   backward-out x out = rw (lt-ltb x e out)
 
-  backward-in : (x : ℕ) → e ≤ x → backward s up m e d g t x ≡ aheadAt up (s .minors) (s .minor) g t (x - e) (rowsOn d m (x - e))
+  pub backward-in : (x : ℕ) → e ≤ x → backward s up m e d g t x ≡ aheadAt up (s .minors) (s .minor) g t (x - e) (rowsOn d m (x - e))
   unfolding backward
   backward-in x in′ = rw (le-ltb x e in′)
 
-  backward-gone : (x : ℕ) → s .minors ≤ t + d → backward s up m e d g t x ≡ 0
+  pub backward-gone : (x : ℕ) → s .minors ≤ t + d → backward s up m e d g t x ≡ 0
   backward-gone x gone =
       ⊎-elim
       (backward-out x)
@@ -190,7 +191,7 @@ module _ (s : Sweep) (up : Bool) (m : List ℕ) (e d : ℕ) (g : List ℕ) (t : 
     backward-dark x from in′ = backward-in x (omega arith) ∙ ahead-dark (x - e) (rowsOn d m (x - e)) (omega arith) (omega arith)
 
   -- both rows are in the frame; column j of them stands c bytes behind their starts
-  chosen-both : (near far c j x : ℕ) → t + d + 1 < s .minors → near ≡ rowStart s up (t + d) + c → far ≡ rowStart s up (t + (d + 1)) + c
+  pub chosen-both : (near far c j x : ℕ) → t + d + 1 < s .minors → near ≡ rowStart s up (t + d) + c → far ≡ rowStart s up (t + (d + 1)) + c
       → j ≡ x + c → bent m near far g x ≡ aheadAt up (s .minors) (s .minor) g t j (rowsOn d m x)
   unfolding bent
   chosen-both near far c j x in′ en ef ej =
@@ -201,7 +202,7 @@ module _ (s : Sweep) (up : Bool) (m : List ℕ) (e d : ℕ) (g : List ℕ) (t : 
       (λ q. ap (λ (y : ℕ). getD g y 0) (omega (arith, ef, ej)) ∙ sym (ahead-in up (s .minors) (s .minor) g t j (d + 1) (omega arith)))
 
   -- no line bends
-  chosen-straight : (near c j x : ℕ) → ((y : ℕ) → rowsOn d m y ≡ d) → t + d < s .minors → near ≡ rowStart s up (t + d) + c → j ≡ x + c
+  pub chosen-straight : (near c j x : ℕ) → ((y : ℕ) → rowsOn d m y ≡ d) → t + d < s .minors → near ≡ rowStart s up (t + d) + c → j ≡ x + c
       → straight near g x ≡ aheadAt up (s .minors) (s .minor) g t j (rowsOn d m x)
   chosen-straight near c j x plain in′ en ej =
       ap (λ (y : ℕ). getD g y 0) (omega (arith, en, ej))
@@ -209,7 +210,7 @@ module _ (s : Sweep) (up : Bool) (m : List ℕ) (e d : ℕ) (g : List ℕ) (t : 
       ∙ sym (ap (aheadAt up (s .minors) (s .minor) g t j) (plain x))
 
   -- only the near row is
-  chosen-last : (near c j x : ℕ) → t + d < s .minors → s .minors ≤ t + d + 1 → near ≡ rowStart s up (t + d) + c → j ≡ x + c
+  pub chosen-last : (near c j x : ℕ) → t + d < s .minors → s .minors ≤ t + d + 1 → near ≡ rowStart s up (t + d) + c → j ≡ x + c
       → cond (eqb (getD m x 0) 0) (getD g (near + x) 0) 0 ≡ aheadAt up (s .minors) (s .minor) g t j (rowsOn d m x)
   chosen-last near c j x in′ last en ej =
       bool-cases
@@ -401,7 +402,7 @@ module _ (s : Sweep) (up : Bool) (m : List ℕ) (e d : ℕ) (g : List ℕ) (t : 
 pub unmarked : (d x : ℕ) → rowsOn d [] x ≡ d
 unmarked d x = refl
 
-no-marks : (m : List ℕ) → length m < 1 → m ≡ []
+pub no-marks : (m : List ℕ) → length m < 1 → m ≡ []
 no-marks [] h = refl
 no-marks (v ∷ m) h = absurd (omega (arith, h))
 
@@ -500,83 +501,120 @@ pub cleared-lines : (s : Sweep) → s .major ≡ 1 → {b a : List ℕ} → Rows
     → PixelsAre (spot s) (s .majors) (s .minors) (λ (i k : ℕ). 0) b a
 cleared-lines s flat done = columns-pixels done (spot s) (λ (k : ℕ). k) (λ k h. h) (λ t h. refl) (λ i k h. row-by-row s flat i k)
 
-module _ (s : Sweep) (m : List ℕ) (e d : ℕ) (sane : Sane s) (flat : s .major ≡ 1) (b : List ℕ) (light : ℕ) (dark : Dark s light b) where
-  past : (up : Bool) (k : ℕ) → DarkPast s up (turned up (s .minors) k) light b
-  past up k u x from = row-dark s flat up light b dark u x zero-le
-
+module _ (s : Sweep) (m : List ℕ) (e d : ℕ) (sane : Sane s) (flat : s .major ≡ 1) (b : List ℕ) where
   -- how far the lines have moved aside in all
   moved-less : (i : ℕ) → i < s .majors → r (s .run) (s .rise) i ≤ s .top
   moved-less i h = omega (arith, sane .top, r-up (s .run) (s .rise) i (s .majors - 1) (sane .moves) (omega arith))
 
-  pub eroded-lines : {a : List ℕ} → Bends (s .run) (s .rise) e d (light - e) m
-      → RowsAre (rowStart s (s .falling)) (s .majors) 0 (s .minors) (eroded s (s .falling) m e d b) b a
-      → PixelsAre (spot s) (s .majors) (s .minors) (eroding (shift s) (spot s) (s .minors) (s .majors) e b) b a
-  eroded-lines {a} marks done =
-      pixels-as
-      (columns-pixels done (spot s) (turned (s .falling) (s .minors)) (turned-in (s .falling) (s .minors)) (turned-back (s .falling) (s .minors)) (turned-spot s flat (s .falling)))
-      (eroding (shift s) (spot s) (s .minors) (s .majors) e b)
-      (λ i k l n. ap₂ min (ap (λ (x : ℕ). getD b x 0) (sym (turned-spot s flat (s .falling) i k n))) (ahead i k n))
+  -- the pixel that a line goes on to, in a column that the marks tell of
+  onward-marked : (n : ℕ) → Bends (s .run) (s .rise) e d n m → (i k : ℕ) → k < s .minors → i + e < s .majors → i < n
+      → onward s (s .falling) m e d b (turned (s .falling) (s .minors) k) i ≡ laneAt (shift s) (spot s) (s .minors) b (k + shift s i) (i + e)
+  onward-marked n marks i k l in′ w = onward-in s (s .falling) m e d b (turned (s .falling) (s .minors) k) i in′ ∙ lane-on (s .falling) refl
     where
-      lane-on : (i k : ℕ) → k < s .minors → i + e < s .majors → i + e < light → (up : Bool) → s .falling ≡ up
+      lane-on : (up : Bool) → s .falling ≡ up
           → aheadAt up (s .minors) (s .minor) b (turned up (s .minors) k) (i + e) (rowsOn d m i) ≡ laneAt (shift s) (spot s) (s .minors) b (k + shift s i) (i + e)
-      lane-on i k n h w true f =
-          lane-up (s .minors) (s .minor) b (shift s) (spot s) (row-by-row s flat) k i (i + e) (rowsOn d m i) n
-          (shift-falling s f (i + e) ∙ marks i (omega arith) ∙ ap (λ (x : ℕ). x + rowsOn d m i) (sym (shift-falling s f i)))
-      lane-on i k n h w false f =
-          lane-down (s .minors) (s .minor) b (shift s) (spot s) (row-by-row s flat) k i (i + e) (rowsOn d m i) n
-          (omega (arith, shift-rising s f i, shift-rising s f (i + e), marks i (omega arith), moved-less (i + e) h))
+      lane-on true f =
+          lane-up (s .minors) (s .minor) b (shift s) (spot s) (row-by-row s flat) k i (i + e) (rowsOn d m i) l
+          (shift-falling s f (i + e) ∙ marks i w ∙ ap (λ (x : ℕ). x + rowsOn d m i) (sym (shift-falling s f i)))
+      lane-on false f =
+          lane-down (s .minors) (s .minor) b (shift s) (spot s) (row-by-row s flat) k i (i + e) (rowsOn d m i) l
+          (omega (arith, shift-rising s f i, shift-rising s f (i + e), marks i w, moved-less (i + e) in′))
 
-      ahead : (i k : ℕ) → k < s .minors
-          → onward s (s .falling) m e d b (turned (s .falling) (s .minors) k) i
-          ≡ cond (ltb (i + e) (s .majors)) (laneAt (shift s) (spot s) (s .minors) b (k + shift s i) (i + e)) 0
-      ahead i k n =
-          ⊎-elim
-          (λ in′.
-          rw (lt-ltb (i + e) (s .majors) in′)
-          (⊎-elim
-          (λ w. onward-in s (s .falling) m e d b (turned (s .falling) (s .minors) k) i in′ ∙ lane-on i k n in′ w (s .falling) refl)
-          (λ w.
-          onward-dark s (s .falling) m e d b (turned (s .falling) (s .minors) k) light (past (s .falling) k) i w
-          ∙ sym (lane-dark (shift s) (spot s) (s .minors) b (k + shift s i) (i + e) (λ c v. dark (i + e) c w in′ v)))
-          (less-or-not (i + e) light)))
-          (λ out. rw (le-ltb (i + e) (s .majors) out) (onward-out s (s .falling) m e d b (turned (s .falling) (s .minors) k) i out))
-          (less-or-not (i + e) (s .majors))
-
-  pub dilated-lines : {a : List ℕ} → Bends (s .run) (s .rise) e d light m
-      → RowsAre (rowStart s (not (s .falling))) (s .majors) 0 (s .minors) (dilated s (not (s .falling)) m e d b) b a
-      → PixelsAre (spot s) (s .majors) (s .minors) (dilating (shift s) (spot s) (s .minors) e b) b a
-  dilated-lines {a} marks done =
-      pixels-as
-      (columns-pixels done (spot s) (turned (not (s .falling)) (s .minors)) (turned-in (not (s .falling)) (s .minors)) (turned-back (not (s .falling)) (s .minors))
-      (turned-spot s flat (not (s .falling))))
-      (dilating (shift s) (spot s) (s .minors) e b)
-      (λ i k l n. ap₂ max (ap (λ (x : ℕ). getD b x 0) (sym (turned-spot s flat (not (s .falling)) i k n))) (before i k l n))
+  -- the pixel that a line comes from, likewise
+  backward-marked : (n : ℕ) → Bends (s .run) (s .rise) e d n m → (i k : ℕ) → i < s .majors → k < s .minors → e ≤ i → i < n + e
+      → backward s (not (s .falling)) m e d b (turned (not (s .falling)) (s .minors) k) i ≡ laneAt (shift s) (spot s) (s .minors) b (k + shift s i) (i - e)
+  backward-marked n marks i k in′ l from w =
+      backward-in s (not (s .falling)) m e d b (turned (not (s .falling)) (s .minors) k) i from ∙ lane-back (s .falling) refl
     where
-      moved : (i : ℕ) → e ≤ i → i < light + e → r (s .run) (s .rise) i ≡ r (s .run) (s .rise) (i - e) + rowsOn d m (i - e)
-      moved i h w = let q : i ≡ i - e + e = omega arith in ap (r (s .run) (s .rise)) q ∙ marks (i - e) (omega arith)
+      moved : r (s .run) (s .rise) i ≡ r (s .run) (s .rise) (i - e) + rowsOn d m (i - e)
+      moved = let q : i ≡ i - e + e = omega arith in ap (r (s .run) (s .rise)) q ∙ marks (i - e) (omega arith)
 
-      lane-back : (i k : ℕ) → i < s .majors → k < s .minors → e ≤ i → i < light + e → (f : Bool) → s .falling ≡ f
+      lane-back : (f : Bool) → s .falling ≡ f
           → aheadAt (not f) (s .minors) (s .minor) b (turned (not f) (s .minors) k) (i - e) (rowsOn d m (i - e))
           ≡ laneAt (shift s) (spot s) (s .minors) b (k + shift s i) (i - e)
-      lane-back i k l n h w true f =
-          lane-down (s .minors) (s .minor) b (shift s) (spot s) (row-by-row s flat) k i (i - e) (rowsOn d m (i - e)) n
-          (shift-falling s f i ∙ moved i h w ∙ ap (λ (x : ℕ). x + rowsOn d m (i - e)) (sym (shift-falling s f (i - e))))
-      lane-back i k l n h w false f =
-          lane-up (s .minors) (s .minor) b (shift s) (spot s) (row-by-row s flat) k i (i - e) (rowsOn d m (i - e)) n
-          (omega (arith, shift-rising s f i, shift-rising s f (i - e), moved i h w, moved-less i l))
+      lane-back true f =
+          lane-down (s .minors) (s .minor) b (shift s) (spot s) (row-by-row s flat) k i (i - e) (rowsOn d m (i - e)) l
+          (shift-falling s f i ∙ moved ∙ ap (λ (x : ℕ). x + rowsOn d m (i - e)) (sym (shift-falling s f (i - e))))
+      lane-back false f =
+          lane-up (s .minors) (s .minor) b (shift s) (spot s) (row-by-row s flat) k i (i - e) (rowsOn d m (i - e)) l
+          (omega (arith, shift-rising s f i, shift-rising s f (i - e), moved, moved-less i in′))
+
+  -- what the last pass of a dilation leaves of a frame that it raises
+  pub raised-lines : {g a : List ℕ} → Bends (s .run) (s .rise) e d (s .majors - e) m
+      → RowsAre (rowStart s (not (s .falling))) (s .majors) 0 (s .minors)
+      (λ (t x : ℕ). max (getD g (rowStart s (not (s .falling)) t + x) 0) (dilated s (not (s .falling)) m e d b t x)) g a
+      → PixelsAre (spot s) (s .majors) (s .minors) (λ (i k : ℕ). max (getD g (spot s i k) 0) (dilating (shift s) (spot s) (s .minors) e b i k)) g a
+  raised-lines {g} {a} marks done =
+      pixels-as
+      (columns-pixels done (spot s) (turned up (s .minors)) (turned-in up (s .minors)) (turned-back up (s .minors)) (turned-spot s flat up))
+      (λ (i k : ℕ). max (getD g (spot s i k) 0) (dilating (shift s) (spot s) (s .minors) e b i k))
+      (λ i k l n. ap₂ max (here g i k n) (ap₂ max (here b i k n) (before i k l n)))
+    where
+      up : Bool
+      up = not (s .falling)
+
+      here : (f : List ℕ) (i k : ℕ) → k < s .minors → getD f (rowStart s up (turned up (s .minors) k) + i) 0 ≡ getD f (spot s i k) 0
+      here f i k n = ap (λ (x : ℕ). getD f x 0) (sym (turned-spot s flat up i k n))
 
       before : (i k : ℕ) → i < s .majors → k < s .minors
-          → backward s (not (s .falling)) m e d b (turned (not (s .falling)) (s .minors) k) i
-          ≡ cond (ltb i e) 0 (laneAt (shift s) (spot s) (s .minors) b (k + shift s i) (i - e))
+          → backward s up m e d b (turned up (s .minors) k) i ≡ cond (ltb i e) 0 (laneAt (shift s) (spot s) (s .minors) b (k + shift s i) (i - e))
       before i k l n =
           ⊎-elim
-          (λ out. rw (lt-ltb i e out) (backward-out s (not (s .falling)) m e d b (turned (not (s .falling)) (s .minors) k) i out))
-          (λ in′.
-          rw (le-ltb i e in′)
-          (⊎-elim
-          (λ w. backward-in s (not (s .falling)) m e d b (turned (not (s .falling)) (s .minors) k) i in′ ∙ lane-back i k l n in′ w (s .falling) refl)
-          (λ w.
-          backward-dark s (not (s .falling)) m e d b (turned (not (s .falling)) (s .minors) k) light (past (not (s .falling)) k) i w l
-          ∙ sym (lane-dark (shift s) (spot s) (s .minors) b (k + shift s i) (i - e) (λ c v. dark (i - e) c (omega arith) (omega arith) v)))
-          (less-or-not i (light + e))))
+          (λ out. rw (lt-ltb i e out) (backward-out s up m e d b (turned up (s .minors) k) i out))
+          (λ in′. rw (le-ltb i e in′) (backward-marked (s .majors - e) marks i k l n in′ (omega arith)))
           (less-or-not i e)
+
+  module _ (light : ℕ) (dark : Dark s light b) where
+    past : (up : Bool) (k : ℕ) → DarkPast s up (turned up (s .minors) k) light b
+    past up k u x from = row-dark s flat up light b dark u x zero-le
+
+    pub eroded-lines : {g a : List ℕ} → Bends (s .run) (s .rise) e d (light - e) m
+        → RowsAre (rowStart s (s .falling)) (s .majors) 0 (s .minors) (eroded s (s .falling) m e d b) g a
+        → PixelsAre (spot s) (s .majors) (s .minors) (eroding (shift s) (spot s) (s .minors) (s .majors) e b) g a
+    eroded-lines {g} {a} marks done =
+        pixels-as
+        (columns-pixels done (spot s) (turned (s .falling) (s .minors)) (turned-in (s .falling) (s .minors)) (turned-back (s .falling) (s .minors)) (turned-spot s flat (s .falling)))
+        (eroding (shift s) (spot s) (s .minors) (s .majors) e b)
+        (λ i k l n. ap₂ min (ap (λ (x : ℕ). getD b x 0) (sym (turned-spot s flat (s .falling) i k n))) (ahead i k n))
+      where
+        ahead : (i k : ℕ) → k < s .minors
+            → onward s (s .falling) m e d b (turned (s .falling) (s .minors) k) i
+            ≡ cond (ltb (i + e) (s .majors)) (laneAt (shift s) (spot s) (s .minors) b (k + shift s i) (i + e)) 0
+        ahead i k n =
+            ⊎-elim
+            (λ in′.
+            rw (lt-ltb (i + e) (s .majors) in′)
+            (⊎-elim
+            (λ w. onward-marked (light - e) marks i k n in′ (omega arith))
+            (λ w.
+            onward-dark s (s .falling) m e d b (turned (s .falling) (s .minors) k) light (past (s .falling) k) i w
+            ∙ sym (lane-dark (shift s) (spot s) (s .minors) b (k + shift s i) (i + e) (λ c v. dark (i + e) c w in′ v)))
+            (less-or-not (i + e) light)))
+            (λ out. rw (le-ltb (i + e) (s .majors) out) (onward-out s (s .falling) m e d b (turned (s .falling) (s .minors) k) i out))
+            (less-or-not (i + e) (s .majors))
+
+    pub dilated-lines : {a : List ℕ} → Bends (s .run) (s .rise) e d light m
+        → RowsAre (rowStart s (not (s .falling))) (s .majors) 0 (s .minors) (dilated s (not (s .falling)) m e d b) b a
+        → PixelsAre (spot s) (s .majors) (s .minors) (dilating (shift s) (spot s) (s .minors) e b) b a
+    dilated-lines {a} marks done =
+        pixels-as
+        (columns-pixels done (spot s) (turned (not (s .falling)) (s .minors)) (turned-in (not (s .falling)) (s .minors)) (turned-back (not (s .falling)) (s .minors))
+        (turned-spot s flat (not (s .falling))))
+        (dilating (shift s) (spot s) (s .minors) e b)
+        (λ i k l n. ap₂ max (ap (λ (x : ℕ). getD b x 0) (sym (turned-spot s flat (not (s .falling)) i k n))) (before i k l n))
+      where
+        before : (i k : ℕ) → i < s .majors → k < s .minors
+            → backward s (not (s .falling)) m e d b (turned (not (s .falling)) (s .minors) k) i
+            ≡ cond (ltb i e) 0 (laneAt (shift s) (spot s) (s .minors) b (k + shift s i) (i - e))
+        before i k l n =
+            ⊎-elim
+            (λ out. rw (lt-ltb i e out) (backward-out s (not (s .falling)) m e d b (turned (not (s .falling)) (s .minors) k) i out))
+            (λ in′.
+            rw (le-ltb i e in′)
+            (⊎-elim
+            (λ w. backward-marked light marks i k l n in′ w)
+            (λ w.
+            backward-dark s (not (s .falling)) m e d b (turned (not (s .falling)) (s .minors) k) light (past (not (s .falling)) k) i w l
+            ∙ sym (lane-dark (shift s) (spot s) (s .minors) b (k + shift s i) (i - e) (λ c v. dark (i - e) c (omega arith) (omega arith) v)))
+            (less-or-not i (light + e))))
+            (less-or-not i e)

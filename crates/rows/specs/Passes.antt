@@ -1,7 +1,8 @@
 -- What the private passes keep to.
 --   eroding h A N M e g i k    what a pass of an erosion makes of pixel k at major coordinate i
 --   dilating h A N e g i k     what a pass of a dilation makes of it
---   ErodesLines s w            each line of the sweep s is eroded by windows of w pixels
+--   ErodesLines s w f          each line of the sweep s holds what windows of w pixels make of that line of the frame f
+--   ErodesOn s v w             from the erosion of any frame by windows of v pixels to that by w
 --   DilatesLines s L w         from the erosion of any frame by L, each line is dilated by windows of w
 --   Dark s light g             every pixel from the major coordinate `light` on is 0
 -- Lines that go down the rows:
@@ -41,14 +42,17 @@ eroding h A N M e g i k = min (getD g (A i k) 0) (cond (ltb (i + e) M) (laneAt h
 abbrev pub dilating : (ℕ → ℕ) → (ℕ → ℕ → ℕ) → ℕ → ℕ → List ℕ → ℕ → ℕ → ℕ
 dilating h A N e g i k = max (getD g (A i k) 0) (cond (ltb i e) 0 (laneAt h A N g (k + h i) (i - e)))
 
-pub record ErodesLines (s : Sweep) (w : ℕ) (before after : List ℕ) : Type 0 where
+pub record ErodesLines (s : Sweep) (w : ℕ) (f before after : List ℕ) : Type 0 where
   pub pixels : PixelsAre (spot s) (s .majors) (s .minors)
-      (λ (i k : ℕ). erodedTo (lane (shift s) (spot s) (s .minors) (s .majors) before (k + shift s i)) w i) before after
+      (λ (i k : ℕ). erodedTo (lane (shift s) (spot s) (s .minors) (s .majors) f (k + shift s i)) w i) before after
+
+pub record ErodesOn (s : Sweep) (v w : ℕ) (before after : List ℕ) : Type 0 where
+  pub lines : (f b : List ℕ) → ErodesLines s v f b before → ErodesLines s w f b after
 
 pub record DilatesLines (s : Sweep) (L w : ℕ) (before after : List ℕ) : Type 0 where
-  pub pixels : (f : List ℕ) → ErodesLines s L f before
+  pub pixels : (f b : List ℕ) → ErodesLines s L f b before
       → PixelsAre (spot s) (s .majors) (s .minors)
-      (λ (i k : ℕ). reopened (lane (shift s) (spot s) (s .minors) (s .majors) f (k + shift s i)) L w i) f after
+      (λ (i k : ℕ). reopened (lane (shift s) (spot s) (s .minors) (s .majors) f (k + shift s i)) L w i) b after
 
 abbrev pub Dark : Sweep → ℕ → List ℕ → Type 0
 Dark s light g = (i k : ℕ) → light ≤ i → i < s .majors → k < s .minors → getD g (spot s i k) 0 ≡ 0

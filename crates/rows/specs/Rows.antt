@@ -8,13 +8,15 @@
 --   rowsOf S               the starts of rows that stand S apart
 --   RowsAre st N lo hi F   the rows lo up to, not including, hi, which start at st i, have the pixels F i k; every other byte is as it was
 --   OpensLines s L         every line of the sweep s is opened with windows of L pixels
+--   RaisesLines s L f      every pixel becomes the brighter of itself and that of the frame f, whose lines are opened so
 --   opensSteep, OpensSteep       what `open_steep` promises
 --   opensShallow, OpensShallow   what `open_shallow` promises
+--   raisesFrame, RaisesFrame     what `raise_frame` promises
 -- Laws: rows/proofs/Rowwise, Lines.
 use mathlib.Core.Path.{_≡_}
 use mathlib.Core.Bool.{Bool, true, false, not, cond, _&&_}
 use mathlib.Core.List.{List}
-use Prim.Native.Nat.{ℕ, _+_, _-_, _*_, _≤_, _<_}
+use Prim.Native.Nat.{ℕ, _+_, _-_, _*_, _≤_, _<_, max}
 use lib.Dec.{leb, ltb}
 use lib.ListN.{length, getD}
 use Rattle.lists.specs.Tables.{table}
@@ -56,6 +58,11 @@ OpensLines s L before after =
     PixelsAre (spot s) (s .majors) (s .minors) (λ (i k : ℕ). getD (opened (lane (shift s) (spot s) (s .minors) (s .majors) before (k + shift s i)) L) i 0)
     before after
 
+abbrev pub RaisesLines : Sweep → ℕ → List ℕ → List ℕ → List ℕ → Type 0
+RaisesLines s L f before after =
+    PixelsAre (spot s) (s .majors) (s .minors)
+    (λ (i k : ℕ). max (getD before (spot s i k) 0) (getD (opened (lane (shift s) (spot s) (s .minors) (s .majors) f (k + shift s i)) L) i 0)) before after
+
 -- what `open_steep` leaves of the frame of shape sh that stands in a buffer
 abbrev pub opensSteep : Shape → Direction → ℕ → List ℕ → Bool
 opensSteep sh d L before = isFrame sh && (isDirection d && (not (shallow d) && (leb 1 L && leb (needed sh) (length before))))
@@ -73,3 +80,14 @@ pub record OpensShallow (sh : Shape) (d : Direction) (L : ℕ) (before after mar
   pub same : length marks′ ≡ length marks
   pub done : opensShallow sh d L before (length marks) ≡ true → OpensLines (sweepOf sh d) L before after
   pub none : opensShallow sh d L before (length marks) ≡ false → (after ≡ before) × (marks′ ≡ marks)
+
+-- what `raise_frame` leaves of a frame of shape sh that stands in a buffer, of one of n bytes to open the frame f in, and of one of m bytes for marks
+abbrev pub raisesFrame : Shape → Direction → ℕ → List ℕ → ℕ → ℕ → List ℕ → Bool
+raisesFrame sh d L f n m before =
+    isFrame sh
+    && (isDirection d && (leb 1 L && (leb (needed sh) (length f) && (leb (needed sh) n && (leb (sh .width) m && leb (needed sh) (length before))))))
+
+pub record RaisesFrame (sh : Shape) (d : Direction) (L : ℕ) (f work work′ marks marks′ before after : List ℕ) : Type 0 where
+  pub same : (length work′ ≡ length work) × (length marks′ ≡ length marks)
+  pub done : raisesFrame sh d L f (length work) (length marks) before ≡ true → RaisesLines (sweepOf sh d) L f before after
+  pub none : raisesFrame sh d L f (length work) (length marks) before ≡ false → (work′ ≡ work) × (marks′ ≡ marks) × (after ≡ before)

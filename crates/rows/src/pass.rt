@@ -19,7 +19,7 @@ fn moved(run: usize, rise: usize, i: usize) -> usize
 }
 
 // How far aside the lines stand at row i.
-fn aside(s: Sweep, i: usize) -> usize
+pub(crate) fn aside(s: Sweep, i: usize) -> usize
     requires { ⌜ Sane s × (i < s .majors) ⌝ }
     ensures { λ t. ⌜ (t ≡ shift s i) × (t ≤ 8192) ⌝ }
 {
@@ -83,4 +83,16 @@ pub(crate) fn dilate_rows(buf: &mut [u8], s: Sweep, light: usize, e: usize)
             aside(s, i - e),
         );
     }
+}
+
+// The length of the windows before the last pass of a dilation, whose windows have `length` pixels: it doubles until then.
+pub(crate) fn before_last(length: usize) -> usize
+    requires { ⌜ 1 ≤ length ⌝ }
+    ensures { λ w. ⌜ (1 ≤ w) × (w ≤ length) × (length ≤ w + w) ⌝ }
+{
+    let mut w = 1;
+    while w < length - w {
+        w += w;
+    }
+    w
 }

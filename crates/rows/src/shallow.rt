@@ -1,24 +1,30 @@
-// The opening of a frame in a shallow direction, in place: as in a steep one the windows' length doubles from one pass to the next, and the marks are made anew
-// for each pass.
+// The opening of a frame in a shallow direction, in place or beside another that it raises: as in a steep one the windows' length doubles from one pass to the
+// next, and the marks are made anew for each pass.
+use crate::first::first_slants;
 use crate::marks::mark_bends;
+use crate::pass::before_last;
 use crate::pass::clear_rows;
+use crate::raise::raise_slants;
 use crate::slant::dilate_slants;
 use crate::slant::erode_slants;
 use frame::Direction;
 use frame::Shape;
 use frame::Sweep;
 ghost use mathlib.Core.Path.{_≡_};
-ghost use Prim.Native.Nat.{_+_, _-_, _≤_};
+ghost use Prim.Native.Nat.{ℕ, _+_, _-_, _≤_, max};
 ghost use lib.ListN;
-ghost use Rattle.rows.specs.Rows.{OpensLines, OpensShallow};
-ghost use Rattle.rows.specs.Passes.{Slanted, Dark, ErodesLines, DilatesLines};
+ghost use lib.ListN.{getD};
+ghost use Rattle.frame.specs.Sweep.{shift};
+ghost use Rattle.rows.specs.Rows.{spot, PixelsAre, OpensLines, RaisesLines, OpensShallow};
+ghost use Rattle.rows.specs.Passes.{Slanted, Dark, eroding, dilating, ErodesOn, DilatesLines};
 
-// From column majors + 1 − w on no window of w columns fits, so these columns are dark.
-fn erode_along(buf: &mut [u8], bends: &mut [u8], s: Sweep, length: usize)
-    requires { ⌜ Slanted s (now buf) × (1 ≤ length) × (length ≤ s .majors) × (s .majors ≤ lib.ListN.length (now bends)) ⌝ }
-    ensures { λ _. ⌜ ErodesLines s length (now (buf .entry)) (now (buf .exit)) ⌝ }
+// From an erosion by windows of `from` columns to that by windows of `length`. From column majors + 1 − w on no window of w columns fits, so these columns are
+// dark.
+fn erode_along(buf: &mut [u8], bends: &mut [u8], s: Sweep, from: usize, length: usize)
+    requires { ⌜ Slanted s (now buf) × (1 ≤ from) × (from ≤ length) × (length ≤ s .majors) × (s .majors ≤ lib.ListN.length (now bends)) × Dark s (s .majors + 1 - from) (now buf) ⌝ }
+    ensures { λ _. ⌜ ErodesOn s from length (now (buf .entry)) (now (buf .exit)) × Dark s (s .majors + 1 - length) (now (buf .exit)) ⌝ }
 {
-    let mut w = 1;
+    let mut w = from;
     while w < length {
         let e = line::growth(w, length);
         let step = e * s.rise / s.run;
@@ -39,14 +45,15 @@ fn whole_blocks(n: usize, most: usize) -> usize
     if end < most { end } else { most }
 }
 
-// From the erosion of any frame to its opening. The erosion is dark from column majors − length + 1 on; windows of w reach w − 1 columns further.
-fn dilate_along(buf: &mut [u8], bends: &mut [u8], s: Sweep, length: usize)
-    requires { ⌜ Slanted s (now buf) × (1 ≤ length) × (length ≤ s .majors) × (s .majors ≤ lib.ListN.length (now bends)) × Dark s (s .majors - length + 1) (now buf) ⌝ }
-    ensures { λ _. ⌜ DilatesLines s length length (now (buf .entry)) (now (buf .exit)) ⌝ }
+// From the erosion of any frame by windows of `length` columns to its dilation by windows of `reach`, with `length` to its opening. The erosion is dark from
+// column majors + 1 − length on; windows of w reach w − 1 columns further.
+fn dilate_along(buf: &mut [u8], bends: &mut [u8], s: Sweep, length: usize, reach: usize)
+    requires { ⌜ Slanted s (now buf) × (1 ≤ reach) × (reach ≤ length) × (length ≤ s .majors) × (s .majors ≤ lib.ListN.length (now bends)) × Dark s (s .majors + 1 - length) (now buf) ⌝ }
+    ensures { λ _. ⌜ DilatesLines s length reach (now (buf .entry)) (now (buf .exit)) ⌝ }
 {
     let mut w = 1;
-    while w < length {
-        let e = line::growth(w, length);
+    while w < reach {
+        let e = line::growth(w, reach);
         let step = e * s.rise / s.run;
         let light = whole_blocks(s.majors - length + w + e, s.majors) - e;
         let marks = mark_bends(bends, light, s.run, s.rise, e, step);
@@ -63,8 +70,54 @@ fn open_along(buf: &mut [u8], bends: &mut [u8], s: Sweep, length: usize)
         clear_rows(buf, s.minor, s.majors, 0, s.minors);
         return;
     }
-    erode_along(buf, bends, s, length);
-    dilate_along(buf, bends, s, length);
+    erode_along(buf, bends, s, 1, length);
+    dilate_along(buf, bends, s, length, length);
+}
+
+// The first pass of the erosion, from src into dst.
+fn first_along(src: &[u8], s: Sweep, bends: &mut [u8], dst: &mut [u8])
+    requires { ⌜ Slanted s (now src) × Slanted s (now dst) × (s .majors ≤ lib.ListN.length (now bends)) ⌝ }
+    ensures { λ _. ⌜ PixelsAre (spot s) (s .majors) (s .minors) (eroding (shift s) (spot s) (s .minors) (s .majors) 1 (now (src .entry))) (now (dst .entry)) (now (dst .exit)) ⌝ }
+{
+    let step = s.rise / s.run;
+    let marks = mark_bends(bends, s.majors - 1, s.run, s.rise, 1, step);
+    first_slants(src, &bends[..marks], s, s.falling, step, dst);
+}
+
+// The last pass of the dilation, from `work`, which raises dst.
+fn raise_last(work: &[u8], s: Sweep, e: usize, bends: &mut [u8], dst: &mut [u8])
+    requires { ⌜ Slanted s (now work) × Slanted s (now dst) × (e ≤ s .majors) × (s .majors ≤ lib.ListN.length (now bends)) ⌝ }
+    ensures { λ _. ⌜ PixelsAre (spot s) (s .majors) (s .minors) (λ (i k : ℕ). max (getD (now (dst .entry)) (spot s i k) 0) (dilating (shift s) (spot s) (s .minors) e (now (work .entry)) i k)) (now (dst .entry)) (now (dst .exit)) ⌝ }
+{
+    let step = e * s.rise / s.run;
+    let marks = mark_bends(bends, s.majors - e, s.run, s.rise, e, step);
+    raise_slants(work, &bends[..marks], s, !s.falling, e, step, dst);
+}
+
+// Raises dst by the opening of src, by way of `work`. Windows of one column are the frame itself, and where none fits all is dark.
+pub(crate) fn raise_along(
+    src: &[u8],
+    s: Sweep,
+    length: usize,
+    work: &mut [u8],
+    bends: &mut [u8],
+    dst: &mut [u8],
+)
+    requires { ⌜ Slanted s (now src) × Slanted s (now work) × Slanted s (now dst) × (1 ≤ length) × (s .majors ≤ lib.ListN.length (now bends)) ⌝ }
+    ensures { λ _. ⌜ RaisesLines s length (now (src .entry)) (now (dst .entry)) (now (dst .exit)) ⌝ }
+{
+    if s.majors < length {
+        return;
+    }
+    if length < 2 {
+        raise_last(src, s, 0, bends, dst);
+        return;
+    }
+    let reach = before_last(length);
+    first_along(src, s, bends, work);
+    erode_along(work, bends, s, 2, length);
+    dilate_along(work, bends, s, length, reach);
+    raise_last(work, s, length - reach, bends, dst);
 }
 
 // Opens the frame that stands in buf in a shallow direction; the marks of its passes stand in `bends`. Where rule 1, 2, 3 or 5 would refuse, the

@@ -12,7 +12,7 @@ ghost use Rattle.rows.specs.Rows.{RowsAre};
 ghost use Rattle.rows.specs.Passes.{Slanted, Dark, DarkPast, Marked, rowStart, eroded, dilated};
 
 // Where row t starts.
-fn start(s: Sweep, up: bool, t: usize) -> usize
+pub(crate) fn start(s: Sweep, up: bool, t: usize) -> usize
     requires { ⌜ Sane s × (t < s .minors) ⌝ }
     ensures { λ n. ⌜ n ≡ rowStart s up t ⌝ }
 {

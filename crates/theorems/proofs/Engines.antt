@@ -2,7 +2,9 @@
 -- does not fit changes nothing.
 --   open-lanes-once                                              lines opened where they stand
 --   darken-once, brighten-once, darken-bent-once, brighten-bent-once, blacken-once, blacken-bent-once, copy-once    the passes over bytes
+--   darken-into-once, darken-bent-into-once, raise-once, raise-bent-once    the passes from one buffer into another
 --   open-steep-once, open-shallow-once                           a frame opened where it stands
+--   raise-by-rows-once                                           a frame opened beside another, which it raises
 --   raise-frame-once, claim-frame-once                           a frame opened into another, by strips
 -- Marks and strips in scratch are the exception, as scratch is elsewhere.
 -- Assumes nothing.
@@ -19,7 +21,7 @@ use Rattle.lists.specs.Stores.{Filled}
 use Rattle.lists.proofs.Cases.{less-or-not, both-left, both-right}
 use Rattle.lists.proofs.Stores.{filled-once}
 use Rattle.line.specs.Lanes.{OpensFront}
-use Rattle.passes.specs.Passes.{Darkens, Brightens, DarkensBent, BrightensBent, Clears, ClearsBent, Copies}
+use Rattle.passes.specs.Passes.{Darkens, Brightens, DarkensBent, BrightensBent, Clears, ClearsBent, DarkensInto, DarkensBentInto, Raises, RaisesBent, Copies}
 use Rattle.passes.proofs.Ways.{both-or-not, all-or-not, upward-or-not, downward-or-not}
 use Rattle.line.proofs.Laws as line
 use Rattle.frame.specs.declared.direction.Direction.{Direction}
@@ -31,7 +33,7 @@ use Rattle.frame.specs.Lines.{at, place}
 use Rattle.frame.specs.Sweep as sweep
 use Rattle.frame.specs.Sweep.{sweepOf}
 use Rattle.frame.proofs.ByLines.{frames-same}
-use Rattle.rows.specs.Rows.{spot, PixelsAre, opensSteep, OpensSteep, opensShallow, OpensShallow}
+use Rattle.rows.specs.Rows.{spot, PixelsAre, opensSteep, OpensSteep, opensShallow, OpensShallow, raisesFrame, RaisesFrame as RaisesByRows}
 use Rattle.strips.specs.Engine.{stripBytes, fits, claimFits, RaisesFrame, ClaimsFrame}
 use Rattle.strips.proofs.Fits.{fits-ready}
 use Rattle.strips.proofs.Claims.{packed-frame}
@@ -86,6 +88,56 @@ module _ {b b₁ b₂ : List ℕ} (at n : ℕ) where
       once (both-or-not (at-most n (length f)) (at-most n (length b)))
       (λ (there, here). p .done there here) (λ h. p .none (λ there here. h (there, here)))
       (λ (there, here). q .done there here) (λ h. q .none (λ there here. h (there, here)))
+
+module _ (f b : List ℕ) (at from n : ℕ) where
+  there : ((at + n ≤ length f) × (from + n ≤ length f) × (at + n ≤ length b)) ⊎ ((at + n ≤ length f) × (from + n ≤ length f) × (at + n ≤ length b) → ⊥)
+  there = all-or-not (at-most (at + n) (length f)) (at-most (from + n) (length f)) (at-most (at + n) (length b))
+
+  pub darken-into-once : {b₁ b₂ : List ℕ} → DarkensInto f at from n b b₁ → DarkensInto f at from n b b₂ → b₁ ≡ b₂
+  darken-into-once p q =
+      once there
+      (λ (own, other, room). p .done own other room) (λ h. p .none (λ own other room. h (own, other, room)))
+      (λ (own, other, room). q .done own other room) (λ h. q .none (λ own other room. h (own, other, room)))
+
+  pub raise-once : {b₁ b₂ : List ℕ} → Raises f at from n b b₁ → Raises f at from n b b₂ → b₁ ≡ b₂
+  raise-once p q =
+      once there
+      (λ (own, other, room). p .done own other room) (λ h. p .none (λ own other room. h (own, other, room)))
+      (λ (own, other, room). q .done own other room) (λ h. q .none (λ own other room. h (own, other, room)))
+
+module _ (f m b : List ℕ) (at near far n : ℕ) where
+  record Fit : Type 0 where
+    pub own : at + n ≤ length f
+    pub near′ : near + n ≤ length f
+    pub far′ : far + n ≤ length f
+    pub marks : n ≤ length m
+    pub room : at + n ≤ length b
+
+  fit-or-not : Fit ⊎ (Fit → ⊥)
+  fit-or-not =
+      ⊎-elim
+      (λ (own, one, other).
+      ⊎-elim
+      (λ (marks, room). inl (record { own = own; near′ = one; far′ = other; marks = marks; room = room }))
+      (λ none. inr (λ h. none (h .marks, h .room)))
+      (both-or-not (at-most n (length m)) (at-most (at + n) (length b))))
+      (λ none. inr (λ h. none (h .own, h .near′, h .far′)))
+      (all-or-not (at-most (at + n) (length f)) (at-most (near + n) (length f)) (at-most (far + n) (length f)))
+
+  fit : at + n ≤ length f → near + n ≤ length f → far + n ≤ length f → n ≤ length m → at + n ≤ length b → Fit
+  fit own one other marks room = record { own = own; near′ = one; far′ = other; marks = marks; room = room }
+
+  pub darken-bent-into-once : {b₁ b₂ : List ℕ} → DarkensBentInto f m at near far n b b₁ → DarkensBentInto f m at near far n b b₂ → b₁ ≡ b₂
+  darken-bent-into-once p q =
+      once fit-or-not
+      (λ h. p .done (h .own) (h .near′) (h .far′) (h .marks) (h .room)) (λ h. p .none (λ own one other marks room. h (fit own one other marks room)))
+      (λ h. q .done (h .own) (h .near′) (h .far′) (h .marks) (h .room)) (λ h. q .none (λ own one other marks room. h (fit own one other marks room)))
+
+  pub raise-bent-once : {b₁ b₂ : List ℕ} → RaisesBent f m at near far n b b₁ → RaisesBent f m at near far n b b₂ → b₁ ≡ b₂
+  raise-bent-once p q =
+      once fit-or-not
+      (λ h. p .done (h .own) (h .near′) (h .far′) (h .marks) (h .room)) (λ h. p .none (λ own one other marks room. h (fit own one other marks room)))
+      (λ h. q .done (h .own) (h .near′) (h .far′) (h .marks) (h .room)) (λ h. q .none (λ own one other marks room. h (fit own one other marks room)))
 
 -- ---- a frame where it stands
 
@@ -144,6 +196,18 @@ open-shallow-once {sh} {d} {L} {b} {b₁} {b₂} {m} p q = go (opensShallow sh d
     go false e = p .none e .0 ∙ sym (q .none e .0)
 
 -- ---- a frame into another
+
+pub raise-by-rows-once : {sh : Shape} {d : Direction} {L : ℕ} {f w w₁ w₂ m m₁ m₂ g g₁ g₂ : List ℕ} → RaisesByRows sh d L f w w₁ m m₁ g g₁
+    → RaisesByRows sh d L f w w₂ m m₂ g g₂ → g₁ ≡ g₂
+raise-by-rows-once {sh} {d} {L} {f} {w} {w₁} {w₂} {m} {m₁} {m₂} {g} {g₁} {g₂} p q = go (raisesFrame sh d L f (length w) (length m) g) refl
+  where
+    either : (t : Bool) → shallow d ≡ t → raisesFrame sh d L f (length w) (length m) g ≡ true → g₁ ≡ g₂
+    either true flat e = columns-once (sweepOf sh d) (both-left (isFrame sh) _ e) (columns sh d flat) (p .done e) (q .done e)
+    either false steep e = rows-once (sweepOf sh d) (both-left (isFrame sh) _ e) (rows sh d steep) (p .done e) (q .done e)
+
+    go : (t : Bool) → raisesFrame sh d L f (length w) (length m) g ≡ t → g₁ ≡ g₂
+    go true e = either (shallow d) refl e
+    go false e = p .none e .2 ∙ sym (q .none e .2)
 
 pub raise-frame-once : {f : List ℕ} {sh : Shape} {d : Direction} {L : ℕ} {g g₁ g₂ t t₁ t₂ : List ℕ} → RaisesFrame f sh d L g g₁ t t₁
     → RaisesFrame f sh d L g g₂ t t₂ → g₁ ≡ g₂

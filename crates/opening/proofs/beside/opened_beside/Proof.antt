@@ -1,19 +1,13 @@
 -- The copy without gaps, opened where it stands.
 use mathlib.Core.Path.{sym, _∙_}
-use mathlib.Core.List.{List}
-use Prim.Native.Nat.{ℕ, _≤_}
 use native.Mathlib.Omega.{arith}
-use lib.ListN.{length, take}
 use lib.Seq.{length-take-le}
 use Rattle.frame.proofs.Shapes.{framed}
 use Rattle.strips.proofs.Claims.{packed-ok, packed-needed}
-use Rattle.opening.proofs.Inplace.{opened-steep, opened-shallow}
+use Rattle.opening.proofs.Inplace.{front-room, opened-steep, opened-shallow}
 use borrow.Author.Needs.{needs}
 use Rattle.opening.proofs.beside.opened_beside.Statement.{statement}
 use Rattle.opening.proofs.beside.opened_beside.Tie as tie
-
-front-room : (k : ℕ) (xs : List ℕ) → k ≤ length xs → k ≤ length (take k xs)
-front-room k xs fit = omega (arith, length-take-le k xs fit)
 
 open-rows-requires : tie.Need-open-rows-requires
 open-rows-requires c κs =

@@ -1,20 +1,17 @@
--- By strips as `raise_frame` says; else the opened frame raises the destination.
-use mathlib.Core.Path.{ap}
-use Prim.Native.Nat.{max}
+-- By strips as their `raise_frame` says, or by rows as theirs does.
+use mathlib.Core.Path.{sym}
 use native.Mathlib.Omega.{arith}
-use lib.ListN.{getD}
-use Rattle.frame.specs.Lines.{at, place}
+use lib.Seq.{length-take-le}
 use Rattle.frame.proofs.Shapes.{framed}
-use Rattle.strips.proofs.Fits.{area-small, ready-fits}
-use Rattle.strips.proofs.Paintings.{painted-as}
+use Rattle.rows.proofs.Steeps.{bytes-needed}
+use Rattle.strips.proofs.Fits.{ready-fits}
+use Rattle.opening.proofs.Inplace.{front-room, raised-beside}
 use borrow.Author.Needs.{needs}
 use Rattle.opening.proofs.beside.raise_by.Statement.{statement}
 use Rattle.opening.proofs.beside.raise_by.Tie as tie
 
-mul-if1 : tie.Need-mul-if1
-mul-if1 c =
-    let b = c .before .before .before .before in
-    omega (arith, area-small (framed (b .args .shape) (b .pre .ok .frame)))
+bytes-requires : tie.Need-bytes-requires
+bytes-requires c κs = search needs
 
 raise-frame-requires : tie.Need-raise-frame-requires
 raise-frame-requires c κs = search needs
@@ -30,16 +27,18 @@ returns c =
     let b = c .before .before .before .before .before .before .before .before .before .before .before .before in
     c .before .before .before .before .raise-frame .ensures .fitted (ready-fits (b .args .shape) (b .args .d) (b .args .length) _ _ _ (b .pre))
 
-opened-beside-requires : tie.Need-opened-beside-requires
-opened-beside-requires c κs =
-    let pre = c .before .before .before .before .before .before .pre in
-    (pre .ok, pre .some, pre .source, omega (arith, c .before .if1 .left))
+array-borrow-prefix-bends : tie.Need-array-borrow-prefix-bends
+array-borrow-prefix-bends c =
+    let b = c .before .before .before .before .before .before in
+    omega (arith, framed (b .args .shape) (b .pre .ok .frame))
 
-raise-rows-requires : tie.Need-raise-rows-requires
-raise-rows-requires c κs =
-    let pre = c .before .before .before .before .before .before .before .before .before .before .before .pre in
-    let opened = c .before .before .before .before .opened-beside .ensures in
-    (pre .ok .frame, omega (arith, c .before .before .before .before .before .before .if1 .left, opened .same), pre .target)
+slice-aggregate-raise-frame : tie.Need-slice-aggregate-raise-frame
+slice-aggregate-raise-frame c =
+    let b = c .before .before .before .before .before .before .before in
+    sym (length-take-le _ _ (omega (arith, framed (b .args .shape) (b .pre .ok .frame))))
+
+raise-frame-requires-2 : tie.Need-raise-frame-requires-2
+raise-frame-requires-2 c κs = search needs
 
 same-length-3 : tie.Need-same-length-3
 same-length-3 c = search needs
@@ -50,20 +49,23 @@ same-length-4 c = search needs
 returns-2 : tie.Need-returns-2
 returns-2 c =
     let a = c .before .before .before .before .before .before .before .before .before .before .before .before .before .before .args in
-    let opened = c .before .before .before .before .before .before .before .opened-beside .ensures in
-    painted-as _ (c .before .before .raise-rows .ensures) (λ x y h l. ap (max (getD (a .dst .now) (place (a .shape) (at x y)) 0)) (opened .pixels x y h l))
+    let pre = c .before .before .before .before .before .before .before .before .before .before .before .before .before .before .pre in
+    let bytes = bytes-needed (pre .ok) (c .before .before .before .before .before .before .before .before .before .before .bytes .ensures) in
+    raised-beside (a .shape) (a .d) (pre .ok) (a .src .now) (a .length) (pre .some) (pre .source) (rw bytes at (c .before .before .before .before .before .before .before .before .before .if1 .left))
+    (front-room _ _ (omega (arith, framed (a .shape) (pre .ok .frame)))) (pre .target) (c .before .before .before .before .before .raise-frame2 .ensures)
 
 pub raise-by-spec : {M : Type 1} → statement M
 raise-by-spec =
     tie.close
     (tie.spec
-    mul-if1
+    bytes-requires
     raise-frame-requires
     same-length
     same-length-2
     returns
-    opened-beside-requires
-    raise-rows-requires
+    array-borrow-prefix-bends
+    slice-aggregate-raise-frame
+    raise-frame-requires-2
     same-length-3
     same-length-4
     returns-2)

@@ -17,15 +17,15 @@ use Rattle.rows.proofs.shallow.dilate_along.Statement.{statement}
 use Rattle.rows.proofs.shallow.dilate_along.Tie as tie
 
 abbrev Inv-loop : tie.InvT-loop
-Inv-loop buf₀ bends₀ s length w₀ buf bends w =
-    (lib.ListN.length buf ≡ lib.ListN.length buf₀) × (lib.ListN.length bends ≡ lib.ListN.length bends₀) × (1 ≤ w) × (w ≤ length)
+Inv-loop buf₀ bends₀ s length reach w₀ buf bends w =
+    (lib.ListN.length buf ≡ lib.ListN.length buf₀) × (lib.ListN.length bends ≡ lib.ListN.length bends₀) × (1 ≤ w) × (w ≤ reach)
     × DilatesLines s length w buf₀ buf × Dark s (s .majors - length + w) buf
 
 abbrev μ-loop : tie.MeasureT-loop
-μ-loop buf₀ bends₀ s length w₀ buf bends w = length - w
+μ-loop buf₀ bends₀ s length reach w₀ buf bends w = reach - w
 
 loop-holds : tie.Need-loop-holds Inv-loop μ-loop
-loop-holds c = (refl, refl, search needs, search needs, record { pixels = λ f q. dilated-start _ _ _ _ f _ (q .pixels) }, c .before .before .pre .4)
+loop-holds c = (refl, refl, search needs, search needs, record { pixels = λ f b q. dilated-start _ _ _ _ f _ (q .pixels) }, λ i k from. c .before .before .pre .5 i k (omega arith))
 
 growth-requires : tie.Need-growth-requires Inv-loop μ-loop
 growth-requires c κs = search needs
@@ -38,7 +38,7 @@ mul-step c =
     let e = c .before .growth .result in
     let fits : e * s .rise ≤ longest * steepest =
     mul-le-mul {n₁ = e} {m₁ = s .rise} {n₂ = longest} {m₂ = steepest}
-    (omega (arith, c .before .growth .ensures, c .before .before .before .loop .inv, pre, sane .majors)) (omega (arith, sane .slow, sane .run)) in
+    (omega (arith, c .before .growth .ensures, c .before .before .before .loop .inv .2, c .before .before .before .loop .inv .3, pre .2, pre .3, sane .majors)) (omega (arith, sane .slow, sane .run)) in
     omega arith
 
 div-step : tie.Need-div-step Inv-loop μ-loop
@@ -57,7 +57,7 @@ whole-blocks-requires : tie.Need-whole-blocks-requires Inv-loop μ-loop
 whole-blocks-requires c κs =
     let pre = c .before .before .before .before .before .before .before .before .pre in
     let inv = c .before .before .before .before .before .loop .inv in
-    (omega (arith, pre .1, pre .2, inv .2, inv .3, c .before .before .before .growth .ensures), pre .0 .sane .majors)
+    (omega (arith, pre .1, pre .2, pre .3, inv .2, inv .3, c .before .before .before .growth .ensures), pre .0 .sane .majors)
 
 sub-light : tie.Need-sub-light Inv-loop μ-loop
 sub-light c = omega (arith, c .whole-blocks .ensures)
@@ -68,17 +68,17 @@ mark-bends-requires c κs =
     let sane = pre .0 .sane in
     let at = c .before .before .before .before .before .before .before .loop in
     let grown = c .before .before .before .before .before .growth in
-    (omega (arith, pre .3, at .inv .1, c .before .whole-blocks .ensures), sane .moves, sane .run, sane .slow, omega (arith, grown .ensures, at .inv .2, at .inv .3, pre .2, sane .majors), refl)
+    (omega (arith, pre .4, at .inv .1, c .before .whole-blocks .ensures), sane .moves, sane .run, sane .slow, omega (arith, grown .ensures, at .inv .2, at .inv .3, pre .2, pre .3, sane .majors), refl)
 
 slice-reshare-prefix-dilate-slants : tie.Need-slice-reshare-prefix-dilate-slants Inv-loop μ-loop
 slice-reshare-prefix-dilate-slants c =
     let marked = c .before .before .before .mark-bends in
-    marks-fit (marked .ensures .1) (omega (arith, c .before .before .before .before .before .before .before .before .before .before .before .before .before .before .pre .3, c .before .before .before .before .before .before .before .before .before .before .before .loop .inv .1, c .before .before .before .before .before .whole-blocks .ensures, marked .ensures .0))
+    marks-fit (marked .ensures .1) (omega (arith, c .before .before .before .before .before .before .before .before .before .before .before .before .before .before .pre .4, c .before .before .before .before .before .before .before .before .before .before .before .loop .inv .1, c .before .before .before .before .before .whole-blocks .ensures, marked .ensures .0))
 
 slice-aggregate-dilate-slants : tie.Need-slice-aggregate-dilate-slants Inv-loop μ-loop
 slice-aggregate-dilate-slants c =
     let marked = c .before .before .before .before .mark-bends in
-    sym (length-take-le _ _ (marks-fit (marked .ensures .1) (omega (arith, c .before .before .before .before .before .before .before .before .before .before .before .before .before .before .before .pre .3, c .before .before .before .before .before .before .before .before .before .before .before .before .loop .inv .1, c .before .before .before .before .before .before .whole-blocks .ensures, marked .ensures .0))))
+    sym (length-take-le _ _ (marks-fit (marked .ensures .1) (omega (arith, c .before .before .before .before .before .before .before .before .before .before .before .before .before .before .before .pre .4, c .before .before .before .before .before .before .before .before .before .before .before .before .loop .inv .1, c .before .before .before .before .before .before .whole-blocks .ensures, marked .ensures .0))))
 
 dilate-slants-requires : tie.Need-dilate-slants-requires Inv-loop μ-loop
 dilate-slants-requires c κs =
@@ -91,7 +91,7 @@ dilate-slants-requires c κs =
       record { sane = slanted .sane; next = slanted .next; apart = slanted .apart; room = omega (arith, slanted .room, at .inv .0) },
       omega (arith, ends .0, ends .1),
       λ i k from. at .inv .5 i k (omega (arith, ends .0)),
-      marked-by _ _ _ (marked .ensures .1) (omega (arith, pre .3, at .inv .1, ends .1, marked .ensures .0)),
+      marked-by _ _ _ (marked .ensures .1) (omega (arith, pre .4, at .inv .1, ends .1, marked .ensures .0)),
     )
 
 add-w : tie.Need-add-w Inv-loop μ-loop
@@ -118,7 +118,7 @@ loop-again c =
       omega (arith, at .inv),
       omega (arith, at .inv, grown .ensures),
       record {
-        pixels = λ f q. dilated-step (shift s) (spot s) (s .minors) (s .majors) f length (at .w) (grown .result) (at .inv .4 .pixels f q)
+        pixels = λ f b q. dilated-step (shift s) (spot s) (s .minors) (s .majors) f length (at .w) (grown .result) (at .inv .4 .pixels f b q)
             lines (omega (arith, at .inv)) (omega (arith, grown .ensures));
       },
       λ i k from. dilated-dark s (grown .result) (s .majors - length + at .w) (at .inv .5) lines i k (omega arith),

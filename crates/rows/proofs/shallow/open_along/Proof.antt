@@ -3,7 +3,7 @@ use Prim.Native.Nat.{zero-le}
 use native.Mathlib.Omega.{arith}
 use Rattle.frame.specs.Sweep.{shift}
 use Rattle.rows.specs.Rows.{spot}
-use Rattle.rows.proofs.Lines.{opened-none, dilated-end, erodes-dark}
+use Rattle.rows.proofs.Lines.{opened-none, eroded-start, dilated-end}
 use Rattle.rows.proofs.Slants.{cleared-lines}
 use borrow.Author.Needs.{needs}
 use Rattle.rows.proofs.shallow.open_along.Statement.{statement}
@@ -23,7 +23,7 @@ returns c =
     (cleared-lines s (c .before .before .before .before .before .before .before .before .pre .0 .next) (c .before .before .clear-rows .ensures))
 
 erode-along-requires : tie.Need-erode-along-requires
-erode-along-requires c κs = let pre = c .before .before .before .before .before .before .pre in (pre .0, pre .1, omega arith, pre .2)
+erode-along-requires c κs = let pre = c .before .before .before .before .before .before .pre in (pre .0, omega arith, pre .1, omega arith, pre .2, λ i k from in′. absurd (omega arith))
 
 dilate-along-requires : tie.Need-dilate-along-requires
 dilate-along-requires c κs =
@@ -38,8 +38,9 @@ dilate-along-requires c κs =
       },
       pre .1,
       omega arith,
+      omega arith,
       omega (arith, pre .2, eroded .kept .1),
-      erodes-dark (eroded .ensures) _ (omega arith),
+      eroded .ensures .1,
     )
 
 same-length-2 : tie.Need-same-length-2
@@ -55,8 +56,9 @@ returns-2 c =
     let buf = args .buf .now in
     dilated-end (shift s) (spot s) (s .minors) (s .majors) buf (args .length)
     (c .before .before .before .before .before .before .before .before .before .before .before .before .before .before .before .before .before .before .pre .1)
-    (c .before .before .before .before .dilate-along .ensures .pixels buf
-    (c .before .before .before .before .before .before .before .before .before .before .before .erode-along .ensures))
+    (c .before .before .before .before .dilate-along .ensures .pixels buf buf
+    (c .before .before .before .before .before .before .before .before .before .before .before .erode-along .ensures .0 .lines buf buf
+    (record { pixels = eroded-start _ _ _ _ buf })))
 
 pub open-along-spec : {M : Type 1} → statement M
 open-along-spec =

@@ -1,11 +1,11 @@
--- The frame holds its lines eroded by windows of w pixels.
+-- The frame holds its lines eroded by windows of w pixels, and the rows in which none of these begins are dark.
 use mathlib.Core.Path.{_≡_, _∙_, refl}
-use Prim.Native.Nat.{_-_, _≤_}
+use Prim.Native.Nat.{_+_, _-_, _≤_}
 use native.Mathlib.Omega.{arith}
 use lib.ListN
 use Rattle.frame.specs.Sweep.{shift}
-use Rattle.rows.specs.Passes.{eroding, ErodesLines}
-use Rattle.rows.proofs.Lines.{rows-pixels, eroded-start, eroded-step, erodes-end, erodes-dark}
+use Rattle.rows.specs.Passes.{eroding, ErodesOn, Dark}
+use Rattle.rows.proofs.Lines.{rows-pixels, eroded-step, erodes-on-end, eroded-dark}
 use Rattle.rows.specs.Rows.{spot}
 use Rattle.rows.proofs.Downs.{side-by-side}
 use borrow.Author.Needs.{needs}
@@ -13,13 +13,14 @@ use Rattle.rows.proofs.steep.erode_down.Statement.{statement}
 use Rattle.rows.proofs.steep.erode_down.Tie as tie
 
 abbrev Inv-loop : tie.InvT-loop
-Inv-loop buf₀ s length w₀ buf w = (lib.ListN.length buf ≡ lib.ListN.length buf₀) × (1 ≤ w) × (w ≤ length) × ErodesLines s w buf₀ buf
+Inv-loop buf₀ s from length w₀ buf w =
+    (lib.ListN.length buf ≡ lib.ListN.length buf₀) × (1 ≤ w) × (w ≤ length) × ErodesOn s from w buf₀ buf × Dark s (s .majors + 1 - w) buf
 
 abbrev μ-loop : tie.MeasureT-loop
-μ-loop buf₀ s length w₀ buf w = length - w
+μ-loop buf₀ s from length w₀ buf w = length - w
 
 loop-holds : tie.Need-loop-holds Inv-loop μ-loop
-loop-holds c = (refl, search needs, search needs, record { pixels = eroded-start _ _ _ _ _ })
+loop-holds c = (refl, search needs, search needs, record { lines = λ f b q. q }, c .before .pre .4)
 
 growth-requires : tie.Need-growth-requires Inv-loop μ-loop
 growth-requires c κs = search needs
@@ -37,10 +38,10 @@ erode-rows-requires c κs =
     let at = c .before .before .before .before .loop in
     let grown = c .before .before .growth .ensures in (
       record { sane = down .sane; next = down .next; apart = down .apart; room = omega (arith, down .room, at .inv .0) },
-      erodes-dark (at .inv .3) _ (omega (arith, pre, at .inv)),
-      omega (arith, at .inv, grown, c .before .before .before .loop-test .taken),
-      omega (arith, pre, at .inv, grown),
-      omega (arith, at .inv),
+      at .inv .4,
+      omega (arith, at .inv .1, at .inv .2, grown, c .before .before .before .loop-test .taken),
+      omega (arith, pre .3, at .inv .1, at .inv .2, grown),
+      omega (arith, at .inv .1),
     )
 
 add-w : tie.Need-add-w Inv-loop μ-loop
@@ -57,22 +58,28 @@ loop-again c =
     let pre = c .before .before .before .before .before .before .before .before .before .pre in
     let at = c .before .before .before .before .before .before .before .loop in
     let grown = c .before .before .before .before .before .growth in
-    let pass = c .before .before .erode-rows in (
+    let pass = c .before .before .erode-rows in
+    let lines = rows-pixels {F = eroding (shift s) (spot s) (s .minors) (s .majors) (grown .result) (at .buf)} (pass .ensures) (spot s) (side-by-side s (pre .0 .next)) in (
       pass .kept .0 ∙ at .inv .0,
-      omega (arith, at .inv),
-      omega (arith, at .inv, grown .ensures),
+      omega (arith, at .inv .1),
+      omega (arith, at .inv .1, at .inv .2, grown .ensures),
       record {
-        pixels = eroded-step (shift s) (spot s) (s .minors) (s .majors) _ (at .w) (grown .result) (at .inv .3 .pixels)
-            (rows-pixels {F = eroding (shift s) (spot s) (s .minors) (s .majors) (grown .result) (at .buf)} (pass .ensures) (spot s)
-            (side-by-side s (pre .0 .next))) (omega (arith, at .inv)) (omega (arith, grown .ensures));
+        lines = λ f b q.
+            record {
+              pixels = eroded-step (shift s) (spot s) (s .minors) (s .majors) f (at .w) (grown .result) (at .inv .3 .lines f b q .pixels) lines (omega (arith, at .inv .1))
+                  (omega (arith, grown .ensures));
+            };
       },
+      λ i k from. eroded-dark s (grown .result) (s .majors + 1 - at .w) (at .inv .4) lines i k (omega arith),
     )
 
 same-length : tie.Need-same-length Inv-loop μ-loop
 same-length c = c .before .loop .inv .0
 
 returns : tie.Need-returns Inv-loop μ-loop
-returns c = erodes-end (c .before .loop .inv .3) (omega arith)
+returns c =
+    let end = c .before .loop .inv in
+    (erodes-on-end (end .3) (omega arith), λ i k from. end .4 i k (omega arith))
 
 pub erode-down-spec : {M : Type 1} → statement M
 erode-down-spec =

@@ -2,7 +2,7 @@
 use native.Mathlib.Omega.{arith}
 use Rattle.frame.specs.Sweep.{shift}
 use Rattle.rows.specs.Rows.{spot}
-use Rattle.rows.proofs.Lines.{rows-pixels, opened-none, dilated-end, erodes-dark}
+use Rattle.rows.proofs.Lines.{rows-pixels, opened-none, eroded-start, dilated-end}
 use Rattle.rows.proofs.Downs.{side-by-side}
 use borrow.Author.Needs.{needs}
 use Rattle.rows.proofs.steep.open_down.Statement.{statement}
@@ -24,7 +24,9 @@ returns c =
     (rows-pixels (c .before .before .clear-rows .ensures) (spot s) (side-by-side s (down .next)))
 
 erode-down-requires : tie.Need-erode-down-requires
-erode-down-requires c κs = search needs
+erode-down-requires c κs =
+    let pre = c .before .before .before .before .pre in
+    (pre .0, omega arith, pre .1, omega arith, λ i k from in′. absurd (omega arith))
 
 dilate-down-requires : tie.Need-dilate-down-requires
 dilate-down-requires c κs =
@@ -33,7 +35,8 @@ dilate-down-requires c κs =
       record { sane = down .sane; next = down .next; apart = down .apart; room = omega (arith, down .room, eroded .kept .0) },
       omega arith,
       omega arith,
-      erodes-dark (eroded .ensures) _ (omega arith),
+      omega arith,
+      eroded .ensures .1,
     )
 
 same-length-2 : tie.Need-same-length-2
@@ -47,7 +50,8 @@ returns-2 c =
     let buf = args .buf .now in
     dilated-end (shift s) (spot s) (s .minors) (s .majors) buf length
     (c .before .before .before .before .before .before .before .before .before .before .before .pre .1)
-    (c .before .before .dilate-down .ensures .pixels buf (c .before .before .before .before .before .before .erode-down .ensures))
+    (c .before .before .dilate-down .ensures .pixels buf buf
+    (c .before .before .before .before .before .before .erode-down .ensures .0 .lines buf buf (record { pixels = eroded-start _ _ _ _ buf })))
 
 pub open-down-spec : {M : Type 1} → statement M
 open-down-spec =
