@@ -7,6 +7,8 @@
 --   row-by-row, turned-spot    where a pixel stands in its row
 --   row-dark, dark-past        a frame that is dark from a column on, row by row; the rows that a pass has yet to treat
 --   One row:
+--   bool-cases, min-zero       a mark is set or not; the darker of a pixel and none
+--   onward-in, onward-out, onward-gone, backward-in, backward-out, backward-gone    what it asks for: a pixel, or none
 --   ahead-dark, onward-dark, backward-dark    what it asks for is dark
 --   chosen-both, chosen-straight, chosen-last    the row that the marks choose
 --   erode-gone, erode-last, erode-both      an erosion's row, where none, one or both of the rows that it asks for are in the frame
