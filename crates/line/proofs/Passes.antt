@@ -2,6 +2,8 @@
 --   darkest-one, darkest-cover      a window of one pixel; a window that two windows cover
 --   erodes-one, erodes-more         the passes of an erosion
 --   dilated-at-longer               a value of a dilation by longer windows
+--   dilated-at-join                 the same by two windows, one behind the other
+--   dilated-at-all, dilated-at-none windows that hold all values up to there, and windows that hold none
 --   dilates-one, dilates-more       the passes of a dilation
 --   opened-by                       an opening by its values
 --   eroded-passes, dilated-passes, opened-passes    what the passes of each leave
@@ -94,6 +96,30 @@ dilated-at-longer e w s x small far =
     (max-le
     (dilated-at-le e w x (dilatedAt e (w + s) x) (λ i l lo hi. le-dilated-at e (w + s) x i l lo (omega arith)))
     (dilated-at-le e w (x - s) (dilatedAt e (w + s) x) (λ i l lo hi. le-dilated-at e (w + s) x i l (omega arith) (omega arith))))
+
+-- two windows, one behind the other
+pub dilated-at-join : (e : List ℕ) (v w x : ℕ) → v ≤ x → dilatedAt e (v + w) x ≡ max (dilatedAt e v x) (dilatedAt e w (x - v))
+dilated-at-join e v w x far =
+    le-antisymm
+    (dilated-at-le e (v + w) x (max (dilatedAt e v x) (dilatedAt e w (x - v)))
+    (λ i l lo hi.
+    ⊎-elim
+    (λ q. le-trans (le-dilated-at e v x i l lo q) (le-max-left (dilatedAt e v x) (dilatedAt e w (x - v))))
+    (λ q. le-trans (le-dilated-at e w (x - v) i l (omega arith) (omega arith)) (le-max-right (dilatedAt e v x) (dilatedAt e w (x - v))))
+    (less-or-not x (i + v))))
+    (max-le
+    (dilated-at-le e v x (dilatedAt e (v + w) x) (λ i l lo hi. le-dilated-at e (v + w) x i l lo (omega arith)))
+    (dilated-at-le e w (x - v) (dilatedAt e (v + w) x) (λ i l lo hi. le-dilated-at e (v + w) x i l (omega arith) (omega arith))))
+
+-- windows that hold all values up to x
+pub dilated-at-all : (e : List ℕ) (v w x : ℕ) → x < v → x < w → dilatedAt e v x ≡ dilatedAt e w x
+dilated-at-all e v w x all₁ all₂ =
+    le-antisymm
+    (dilated-at-le e v x (dilatedAt e w x) (λ i l lo hi. le-dilated-at e w x i l lo (omega arith)))
+    (dilated-at-le e w x (dilatedAt e v x) (λ i l lo hi. le-dilated-at e v x i l lo (omega arith)))
+
+pub dilated-at-none : (e : List ℕ) (x : ℕ) → dilatedAt e 0 x ≡ 0
+dilated-at-none e x = le-antisymm (dilated-at-le e 0 x 0 (λ i l lo hi. absurd (omega arith))) zero-le
 
 pub dilates-one : (e : List ℕ) → Dilates e 1 e
 dilates-one e = record { at = λ x h. sym (dilated-at-one e x h) }

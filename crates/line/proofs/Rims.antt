@@ -1,6 +1,8 @@
 -- A line that is dark beyond its end: erosion and dilation with a value at every pixel, so that the passes need no ends.
 --   eroded-to-one, eroded-to-more    the passes
---   eroded-to-past, eroded-to-out, eroded-to-dark    0 where the window leaves the line, past the end, and where the line is dark
+--   eroded-to-join                   a window that two make, one behind the other
+--   eroded-to-past, eroded-to-out    0 where the window leaves the line, and past the end
+--   eroded-to-over, eroded-to-dark   0 where the line is dark, anywhere in the window or at its first pixel
 --   reopened-one, reopened-near, reopened-more    the passes
 --   reopened-dark, reopened-whole    0 where the line is dark; with w = L the opening
 -- Assumes nothing.
@@ -45,12 +47,27 @@ module _ (f : List ℕ) where
       ∙ sym (ap₂ min (eroded-to-in w i (omega arith)) (eroded-to-in w (i + e) (omega arith))))
       (less-or-not (length f) (i + (w + e)))
 
-  pub eroded-to-dark : (w i : ℕ) → 0 < w → getD f i 0 ≡ 0 → erodedTo f w i ≡ 0
-  eroded-to-dark w i some dark =
+  -- two windows, one behind the other
+  pub eroded-to-join : (v w i : ℕ) → 0 < v → 0 < w → erodedTo f (v + w) i ≡ min (erodedTo f v i) (erodedTo f w (i + v))
+  eroded-to-join v w i some more =
+      ⊎-elim
+      (λ past. eroded-to-past (v + w) i past ∙ sym (ap (min (erodedTo f v i)) (eroded-to-past w (i + v) (omega arith)) ∙ omega arith))
+      (λ fit.
+      eroded-to-in (v + w) i fit
+      ∙ darkest-cover f i v (i + v) w (v + w) some more (omega arith) (omega arith) (omega arith) (omega arith) fit
+      ∙ sym (ap₂ min (eroded-to-in v i (omega arith)) (eroded-to-in w (i + v) (omega arith))))
+      (less-or-not (length f) (i + (v + w)))
+
+  -- one dark pixel in the window
+  pub eroded-to-over : (w i j : ℕ) → i ≤ j → j < i + w → getD f j 0 ≡ 0 → erodedTo f w i ≡ 0
+  eroded-to-over w i j lo hi dark =
       ⊎-elim
       (eroded-to-past w i)
-      (λ fit. eroded-to-in w i fit ∙ le-antisymm (rw dark at (darkest-le f i w i fit (omega arith) (omega arith))) zero-le)
+      (λ fit. eroded-to-in w i fit ∙ le-antisymm (rw dark at (darkest-le f i w j fit lo hi)) zero-le)
       (less-or-not (length f) (i + w))
+
+  pub eroded-to-dark : (w i : ℕ) → 0 < w → getD f i 0 ≡ 0 → erodedTo f w i ≡ 0
+  eroded-to-dark w i some dark = eroded-to-over w i i (omega arith) (omega arith) dark
 
 module _ (f : List ℕ) (L : ℕ) where
   values-length : length (table (erodedTo f L) (length f)) ≡ length f

@@ -125,7 +125,7 @@ module _ (sh : Shape) (d : Direction) where
     opened-in-place : {g g′ : List ℕ} (L : ℕ) → 1 ≤ L → OpensLines (sweepOf sh d) L g g′ → Painted sh (openedPixel g sh d L) g g′
     opened-in-place {g} L some o = by-pixels (openedPixel g sh d L) o (line-pixel g L some)
 
-    pub raised-beside : {w w′ m m′ g g′ : List ℕ} (f : List ℕ) (L : ℕ) → 1 ≤ L → needed sh ≤ length f → needed sh ≤ length w → sh .width ≤ length m
+    pub raised-beside : {w w′ m m′ g g′ : List ℕ} (f : List ℕ) (L : ℕ) → 1 ≤ L → needed sh ≤ length f → needed sh ≤ length w → sh .width + sh .height ≤ length m
         → needed sh ≤ length g → RaisesFrame sh d L f w w′ m m′ g g′
         → Painted sh (λ (x y : ℕ). max (getD g (place sh (at x y)) 0) (openedPixel f sh d L x y)) g g′
     unfolding sweep.cell

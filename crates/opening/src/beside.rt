@@ -15,6 +15,9 @@ ghost use Rattle.strips.specs.Pixels.{openedPixel, Painted};
 ghost use Rattle.strips.specs.Engine.{packed};
 ghost use Rattle.strips.specs.Strips.{Ready};
 
+// A byte for each row and each column of the largest frame.
+const SLATE: usize = 8192;
+
 // The frame src, opened in the direction d, into `work`, a frame of the same pixels without gaps: a copy, by windows of one pixel, is opened where it stands.
 pub(crate) fn opened_beside(src: &[u8], shape: Shape, d: Direction, length: usize, work: &mut [u8])
     requires { ⌜ Accepted shape d × (1 ≤ length) × (needed shape ≤ lib.ListN.length (now src)) × (shape .width * shape .height ≤ lib.ListN.length (now work)) ⌝ }
@@ -53,7 +56,7 @@ pub(crate) fn raise_by(
         raise_frame(src, shape, d, length, dst, scratch);
         return;
     }
-    let width = shape.width;
-    let mut bends = [0u8; LONGEST];
-    rows::raise_frame(src, shape, d, length, scratch, &mut bends[..width], dst);
+    let most = shape.width + shape.height;
+    let mut slate = [0u8; SLATE];
+    rows::raise_frame(src, shape, d, length, scratch, &mut slate[..most], dst);
 }

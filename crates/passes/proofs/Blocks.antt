@@ -13,14 +13,16 @@
 --   met-upward, met-downward         a row by blocks, the last two of which overlap
 -- From the buffer g into another:
 --   into-block, raise-block          a block made of g, stored there, or raising what is there
---   raise-more                       one block more
---   into-over, raise-over            a row by blocks, the last of which came first
+--   onto-block                       a block of g that meets what is there
+--   onto-more                        one block more, of those that raise or meet what is there
+--   darkened-twice, brightened-twice what has met its partner is the same when it meets it again
+--   into-over, onto-over             a row by blocks, the last of which came first
 -- Assumes nothing.
 use mathlib.Core.Path.{_≡_, refl, sym, ap, ap₂, _∙_}
 use mathlib.Core.Bool.{Bool, true, false, cond}
 use mathlib.Core.List.{List}
 use mathlib.Core.Logic.{⊎-elim}
-use Prim.Native.Nat.{ℕ, _+_, _-_, _≤_, _<_, max}
+use Prim.Native.Nat.{ℕ, _+_, _-_, _≤_, _<_, min, max}
 use native.Mathlib.Nat.{le-refl}
 use native.Mathlib.Omega.{arith}
 use lib.Dec.{eqb}
@@ -205,10 +207,20 @@ module _ (op : ℕ → ℕ → ℕ) (partner : List ℕ → ℕ → ℕ) (at : �
       → Filled a b (at + i) (at + i + 64) (λ (x : ℕ). max (getD a x 0) (met op partner at g x))
   raise-block {a} f = filled-as f (λ (x : ℕ). max (getD a x 0) (met op partner at g x)) (λ x l h. ap (max (getD a x 0)) (block-made x l h))
 
-pub raise-more : {d a b : List ℕ} {lo mid hi : ℕ} (G : ℕ → ℕ) → Filled d a lo mid (λ (x : ℕ). max (getD d x 0) (G x))
-    → Filled a b mid hi (λ (x : ℕ). max (getD a x 0) (G x)) → lo ≤ mid → mid ≤ hi → Filled d b lo hi (λ (x : ℕ). max (getD d x 0) (G x))
-raise-more {d} G f p low high =
-    filled-join f (filled-as p (λ (x : ℕ). max (getD d x 0) (G x)) (λ x l h. ap (λ (y : ℕ). max y (G x)) (f .above x l))) low high
+-- t is the block at from + i of the row of g that starts at `from`, and meets the one at at + i
+pub onto-block : (op : ℕ → ℕ → ℕ) {a b : List ℕ} (g t : List ℕ) (from at i : ℕ) → ((k : ℕ) → k < 64 → getD t k 0 ≡ getD g (from + i + k) 0)
+    → Filled a b (at + i) (at + i + 64) (λ (x : ℕ). op (getD a x 0) (getD t (x - (at + i)) 0))
+    → Filled a b (at + i) (at + i + 64) (λ (x : ℕ). op (getD a x 0) (straight from g (x - at)))
+onto-block op {a} g t from at i v f =
+    filled-as f (λ (x : ℕ). op (getD a x 0) (straight from g (x - at)))
+    (λ x l h.
+    let e : from + i + (x - (at + i)) ≡ from + (x - at) = omega arith in
+    ap (op (getD a x 0)) (v (x - (at + i)) (omega arith) ∙ ap (λ (y : ℕ). getD g y 0) e))
+
+pub onto-more : (op : ℕ → ℕ → ℕ) {d a b : List ℕ} {lo mid hi : ℕ} (G : ℕ → ℕ) → Filled d a lo mid (λ (x : ℕ). op (getD d x 0) (G x))
+    → Filled a b mid hi (λ (x : ℕ). op (getD a x 0) (G x)) → lo ≤ mid → mid ≤ hi → Filled d b lo hi (λ (x : ℕ). op (getD d x 0) (G x))
+onto-more op {d} G f p low high =
+    filled-join f (filled-as p (λ (x : ℕ). op (getD d x 0) (G x)) (λ x l h. ap (λ (y : ℕ). op y (G x)) (f .above x l))) low high
 
 -- from lo to mid, where from late on, late no further than mid, it was done before
 pub into-over : {d a b : List ℕ} {lo late mid hi : ℕ} {F : ℕ → ℕ} → Filled d a late hi F → Filled a b lo mid F → lo ≤ late → late ≤ mid → mid ≤ hi → Filled d b lo hi F
@@ -220,12 +232,16 @@ into-over {lo = lo} {mid = mid} f p low some high =
       above = λ x l. p .above x (omega arith) ∙ f .above x l;
     }
 
-raised-twice : (u v w : ℕ) → w ≡ max u v → max w v ≡ max u v
-raised-twice u v w e = omega arith
+pub darkened-twice : (u v : ℕ) → min (min u v) v ≡ min u v
+darkened-twice u v = omega arith
 
-pub raise-over : {d a b : List ℕ} {lo late mid hi : ℕ} (G : ℕ → ℕ) → Filled d a late hi (λ (x : ℕ). max (getD d x 0) (G x))
-    → Filled a b lo mid (λ (x : ℕ). max (getD a x 0) (G x)) → lo ≤ late → late ≤ mid → mid ≤ hi → Filled d b lo hi (λ (x : ℕ). max (getD d x 0) (G x))
-raise-over {d} {lo = lo} {late = late} {mid = mid} G f p low some high =
+pub brightened-twice : (u v : ℕ) → max (max u v) v ≡ max u v
+brightened-twice u v = omega arith
+
+pub onto-over : (op : ℕ → ℕ → ℕ) → ((u v : ℕ) → op (op u v) v ≡ op u v) → {d a b : List ℕ} {lo late mid hi : ℕ} (G : ℕ → ℕ)
+    → Filled d a late hi (λ (x : ℕ). op (getD d x 0) (G x)) → Filled a b lo mid (λ (x : ℕ). op (getD a x 0) (G x))
+    → lo ≤ late → late ≤ mid → mid ≤ hi → Filled d b lo hi (λ (x : ℕ). op (getD d x 0) (G x))
+onto-over op twice {d} {lo = lo} {late = late} {mid = mid} G f p low some high =
     record {
       same = p .same ∙ f .same;
       within = λ x l h.
@@ -233,8 +249,8 @@ raise-over {d} {lo = lo} {late = late} {mid = mid} G f p low some high =
           (λ q.
           p .within x l q
           ∙ ⊎-elim
-          (λ before. ap (λ (y : ℕ). max y (G x)) (f .below x before))
-          (λ from. raised-twice (getD d x 0) (G x) _ (f .within x from h))
+          (λ before. ap (λ (y : ℕ). op y (G x)) (f .below x before))
+          (λ from. ap (λ (y : ℕ). op y (G x)) (f .within x from h) ∙ twice (getD d x 0) (G x))
           (less-or-not x late))
           (λ q. p .above x q ∙ f .within x (omega arith) h)
           (less-or-not x mid);

@@ -1,4 +1,4 @@
--- What a pass over n bytes of a buffer leaves. Each byte meets its partner, which stands in the same buffer; what they make stands there too, or in another.
+-- What a pass over n bytes of a buffer leaves. Each byte meets its partner, which stands in the same buffer or in another, and so does what they make.
 --   straight from g j          byte j of the row that starts at `from`
 --   bent m near far g j        byte j of one of two rows: of the one at `near` where the mark j of m is 0, else of the one at `far`
 --   met op partner at g x      what byte x becomes, in a row that starts at `at`: op of it and of its partner
@@ -11,6 +11,8 @@
 --   Clears, ClearsBent         `blacken` and `blacken_bent`: bytes become 0, all of them or the marked ones
 --   DarkensInto, DarkensBentInto   `darken_into` and `darken_bent_into`: bytes of one buffer meet their partners there, and another gets the darker ones
 --   Raises, RaisesBent         `raise` and `raise_bent`: likewise with the brighter ones, where they are brighter than what stands there
+--   DarkensBy, BrightensBy     `darken_by` and `brighten_by`: bytes of one buffer meet their partners in another
+--   Lays                       `lay`: they become their partners
 --   Copies                     `copy`: the first bytes of one slice come to the front of another
 -- Laws: passes/proofs/Blocks.
 use mathlib.Core.Path.{_≡_}
@@ -92,3 +94,15 @@ pub record RaisesBent (src m : List ℕ) (at near far n : ℕ) (before after : L
   pub done : at + n ≤ length src → near + n ≤ length src → far + n ≤ length src → n ≤ length m → at + n ≤ length before
       → Filled before after at (at + n) (λ (x : ℕ). max (getD before x 0) (met max (bent m near far) at src x))
   pub none : (at + n ≤ length src → near + n ≤ length src → far + n ≤ length src → n ≤ length m → at + n ≤ length before → ⊥) → after ≡ before
+
+pub record DarkensBy (src : List ℕ) (from n at : ℕ) (before after : List ℕ) : Type 0 where
+  pub done : from + n ≤ length src → at + n ≤ length before → Filled before after at (at + n) (λ (x : ℕ). min (getD before x 0) (straight from src (x - at)))
+  pub none : (from + n ≤ length src → at + n ≤ length before → ⊥) → after ≡ before
+
+pub record BrightensBy (src : List ℕ) (from n at : ℕ) (before after : List ℕ) : Type 0 where
+  pub done : from + n ≤ length src → at + n ≤ length before → Filled before after at (at + n) (λ (x : ℕ). max (getD before x 0) (straight from src (x - at)))
+  pub none : (from + n ≤ length src → at + n ≤ length before → ⊥) → after ≡ before
+
+pub record Lays (src : List ℕ) (from n at : ℕ) (before after : List ℕ) : Type 0 where
+  pub done : from + n ≤ length src → at + n ≤ length before → Filled before after at (at + n) (λ (x : ℕ). straight from src (x - at))
+  pub none : (from + n ≤ length src → at + n ≤ length before → ⊥) → after ≡ before

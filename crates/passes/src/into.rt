@@ -37,7 +37,7 @@ fn darken_into_row(src: &[u8], at: usize, from: usize, n: usize, dst: &mut [u8])
     let end = n - 64;
     let last = darker_block(src, at, from, end);
     put_block(dst, at + end, last);
-    let blocks = n / 64;
+    let blocks = (n - 1) / 64;
     let mut k = 0;
     while k < blocks {
         let i = 64 * k;
@@ -102,7 +102,7 @@ fn darken_bent_into_row(
     let end = n - 64;
     let last = darker_bent_block(src, bends, at, near, far, end);
     put_block(dst, at + end, last);
-    let blocks = n / 64;
+    let blocks = (n - 1) / 64;
     let mut k = 0;
     while k < blocks {
         let i = 64 * k;
@@ -164,7 +164,7 @@ fn raise_row(src: &[u8], at: usize, from: usize, n: usize, dst: &mut [u8])
     let end = n - 64;
     let last = brighter_block(src, at, from, end);
     raise_block(dst, at + end, last);
-    let blocks = n / 64;
+    let blocks = (n - 1) / 64;
     let mut k = 0;
     while k < blocks {
         let i = 64 * k;
@@ -232,7 +232,7 @@ fn raise_bent_row(
     let end = n - 64;
     let last = brighter_bent_block(src, bends, at, near, far, end);
     raise_block(dst, at + end, last);
-    let blocks = n / 64;
+    let blocks = (n - 1) / 64;
     let mut k = 0;
     while k < blocks {
         let i = 64 * k;

@@ -3,6 +3,7 @@
 // rely on, and changes nothing where that is not so.
 mod bent;
 mod block;
+mod by;
 mod fill;
 mod into;
 mod reach;
@@ -11,6 +12,9 @@ mod straight;
 pub use bent::blacken_bent;
 pub use bent::brighten_bent;
 pub use bent::darken_bent;
+pub use by::brighten_by;
+pub use by::darken_by;
+pub use by::lay;
 pub use fill::blacken;
 pub use fill::copy;
 pub use into::darken_bent_into;

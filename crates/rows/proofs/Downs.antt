@@ -4,12 +4,6 @@
 --   erode-more, dilate-more    one row more of a pass
 --   erode-rest                 the rows from which a pass of an erosion looks at dark rows only, and those which are dark
 --   rows-before-all, dilate-rest    the rows before the first that a dilation changes, and those behind the last
--- From one buffer into another:
---   first-more, first-last     one row more of the first pass of an erosion, and the last row, whose lines end there
---   raising h A N e g b i k    what the last pass of a dilation of g makes of b's pixel k in row i
---   lifted S g b i k           the same in a row whose lines have no other pixel in g
---   upper-more, upper-all      one such row more, and all of them
---   raise-more, raise-rest     one row more below them, and the rows of both kinds
 -- Assumes nothing.
 use mathlib.Core.Path.{_≡_, refl, sym, ap, ap₂, _∙_, subst}
 use mathlib.Core.List.{List}
@@ -27,12 +21,6 @@ use Rattle.rows.specs.Passes.{eroding, dilating}
 use Rattle.rows.proofs.Rowwise.{Parted, row-kept, rows-more, rows-before, rows-still, rows-as, rows-join}
 use Rattle.rows.proofs.Lines.{lane-in, lane-left, lane-right, eroding-dark, dilating-dark}
 use Rattle.rows.proofs.Sides.{beside-in, beside-left, beside-right}
-
-abbrev pub raising : (ℕ → ℕ) → (ℕ → ℕ → ℕ) → ℕ → ℕ → List ℕ → List ℕ → ℕ → ℕ → ℕ
-raising h A N e g b i k = max (getD b (A i k) 0) (dilating h A N e g i k)
-
-abbrev pub lifted : ℕ → List ℕ → List ℕ → ℕ → ℕ → ℕ
-lifted S g b i k = max (getD b (i * S + k) 0) (getD g (i * S + k) 0)
 
 pub side-by-side : (s : Sweep) → s .minor ≡ 1 → (i k : ℕ) → spot s i k ≡ i * s .major + k
 side-by-side s e i k = ap (λ (m : ℕ). i * s .major + k * m) e ∙ ap (λ (m : ℕ). i * s .major + m) (mul-one k)
@@ -117,56 +105,3 @@ module _ (h : ℕ → ℕ) (A : ℕ → ℕ → ℕ) (S N M e : ℕ) (place : (i
     dilate-rest =
         rows-still (rowsOf S) N (light + e) M (dilating h A N e b) b
         (λ i k l u n. held-dark i k (omega arith) u n ∙ sym (dilating-dark h A N M e b light dark i k l u n))
-
-  -- ---- from one buffer into another: g stays as it is, so what a row becomes does not hang on the rows before it
-
-  module _ (g : List ℕ) {b a a′ : List ℕ} where
-    pub first-more : (i from aᵢ bᵢ : ℕ) → RowsAre (rowsOf S) N 0 i (eroding h A N M e g) b a
-        → Filled a a′ (i * S) (i * S + N) (λ (x : ℕ). min (getD g x 0) (beside g from N aᵢ bᵢ (x - i * S))) → from ≡ (i + e) * S → aᵢ ≡ h i → bᵢ ≡ h (i + e)
-        → i + e < M
-        → RowsAre (rowsOf S) N 0 (i + 1) (eroding h A N M e g) b a′
-    first-more i from aᵢ bᵢ r f ef ea eb in′ = rows-more parted r f row zero-le (omega arith)
-      where
-        row : (k : ℕ) → k < N → min (getD g (i * S + k) 0) (beside g from N aᵢ bᵢ (i * S + k - i * S)) ≡ eroding h A N M e g i k
-        row k n =
-            let q : i * S + k - i * S ≡ k = omega arith in
-            rw (q, ea, eb, lt-ltb (i + e) M in′)
-            (ap₂ min (ap (λ (m : ℕ). getD g m 0) (sym (place i k))) (beside-lane g g from i (i + e) k ef (λ l m. refl)))
-
-    pub first-last : (i : ℕ) → RowsAre (rowsOf S) N 0 i (eroding h A N M e g) b a → Filled a a′ (i * S) (i * S + N) (λ (k : ℕ). 0) → i < M → M ≤ i + e
-        → RowsAre (rowsOf S) N 0 (i + 1) (eroding h A N M e g) b a′
-    first-last i r f in′ last = rows-more parted r f (λ k n. rw (le-ltb (i + e) M last) (omega arith)) zero-le in′
-
-    pub upper-more : (i : ℕ) → RowsAre (rowsOf S) N 0 i (lifted S g b) b a → Filled a a′ (i * S) (i * S + N) (λ (x : ℕ). max (getD a x 0) (getD g x 0)) → i < M
-        → RowsAre (rowsOf S) N 0 (i + 1) (lifted S g b) b a′
-    upper-more i r f in′ =
-        rows-more parted r f
-        (λ k n. ap (λ (v : ℕ). max v (getD g (i * S + k) 0)) (row-kept parted r (omega arith) i k in′ n (inr (le-refl i)))) zero-le in′
-
-    pub raise-more : (i j aᵢ bᵢ : ℕ) → RowsAre (rowsOf S) N e i (raising h A N e g b) b a
-        → Filled a a′ (j * S + e * S) (j * S + e * S + N) (λ (x : ℕ). max (getD a x 0) (max (getD g x 0) (beside g (j * S) N aᵢ bᵢ (x - (j * S + e * S)))))
-        → aᵢ ≡ h i → bᵢ ≡ h j → i ≡ j + e → i < M
-        → RowsAre (rowsOf S) N e (i + 1) (raising h A N e g b) b a′
-    raise-more i j aᵢ bᵢ r f ea eb ei in′ =
-        let start : j * S + e * S ≡ i * S = sym (ap (λ (m : ℕ). m * S) ei ∙ add-mul j e S) in
-        rows-more parted r (rw start at f) row (omega arith) in′
-      where
-        row : (k : ℕ) → k < N → max (getD a (i * S + k) 0) (max (getD g (i * S + k) 0) (beside g (j * S) N aᵢ bᵢ (i * S + k - i * S))) ≡ raising h A N e g b i k
-        row k n =
-            let q : i * S + k - i * S ≡ k = omega arith in
-            let p : i - e ≡ j = omega arith in
-            rw (q, ea, eb, p, le-ltb i e (omega arith))
-            (ap₂ max (row-kept parted r (omega arith) i k in′ n (inr (le-refl i)) ∙ ap (λ (m : ℕ). getD b m 0) (sym (place i k)))
-            (ap₂ max (ap (λ (m : ℕ). getD g m 0) (sym (place i k))) (beside-lane g g (j * S) i j k refl (λ l m. refl))))
-
-    pub raise-rest : RowsAre (rowsOf S) N 0 e (raising h A N e g b) b a → RowsAre (rowsOf S) N e M (raising h A N e g a) a a′ → e ≤ M
-        → RowsAre (rowsOf S) N 0 M (raising h A N e g b) b a′
-    raise-rest upper lower top = rows-join parted upper (rows-as lower (raising h A N e g b) kept) zero-le top (le-refl M)
-      where
-        kept : (i k : ℕ) → e ≤ i → i < M → k < N → raising h A N e g a i k ≡ raising h A N e g b i k
-        kept i k l u n =
-            ap (λ (v : ℕ). max v (dilating h A N e g i k))
-            (ap (λ (m : ℕ). getD a m 0) (place i k) ∙ row-kept parted upper top i k u n (inr l) ∙ ap (λ (m : ℕ). getD b m 0) (sym (place i k)))
-
-  pub upper-all : (g : List ℕ) {b a : List ℕ} → RowsAre (rowsOf S) N 0 e (lifted S g b) b a → RowsAre (rowsOf S) N 0 e (raising h A N e g b) b a
-  upper-all g {b} r = rows-as r (raising h A N e g b) (λ i k l u n. rw (lt-ltb i e u, place i k) (omega arith))

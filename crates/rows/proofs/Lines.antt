@@ -2,6 +2,7 @@
 --   lane-in, lane-left, lane-right, lane-pixel, lane-dark    line u's pixel at i, or none; 0 where all pixels are
 --   rows-pixels, columns-pixels         a pass over rows, where the major coordinate counts the rows, or the columns
 --   pixels-as                           pixels known by an equation
+--   held                                a frame's lines by its pixels
 --   eroded-start, eroding-is, eroded-step       the passes of an erosion
 --   first-eroded                        the first of them, from one frame into another
 --   dilated-start, dilating-is, dilated-step    the passes of a dilation
@@ -110,7 +111,7 @@ module _ (h : ℕ → ℕ) (A : ℕ → ℕ → ℕ) (N M : ℕ) (f : List ℕ) 
   line-at u i l = getD-table 0 (laneAt h A N f u) M i l
 
   -- a frame that holds B u i at line u's pixel at i, where B is 0 off the frame
-  held : {B : ℕ → ℕ → ℕ} {b g : List ℕ} → PixelsAre A M N (λ (i k : ℕ). B (k + h i) i) b g → ((u i : ℕ) → i < M → getD (lane h A N M f u) i 0 ≡ 0 → B u i ≡ 0)
+  pub held : {B : ℕ → ℕ → ℕ} {b g : List ℕ} → PixelsAre A M N (λ (i k : ℕ). B (k + h i) i) b g → ((u i : ℕ) → i < M → getD (lane h A N M f u) i 0 ≡ 0 → B u i ≡ 0)
       → (u i : ℕ) → i < M → laneAt h A N g u i ≡ B u i
   held {B} {b} {g} r dark u i l =
       lane-cases h A N g (λ (v : ℕ). v ≡ B u i) u i
@@ -180,7 +181,7 @@ module _ (h : ℕ → ℕ) (A : ℕ → ℕ → ℕ) (N M : ℕ) (f : List ℕ) 
         other = λ x none. p .other x none ∙ r .other x none;
       }
 
-  opening-is : (L i k : ℕ) → 0 < L → i < M → reopened (lane h A N M f (k + h i)) L L i ≡ getD (opened (lane h A N M f (k + h i)) L) i 0
+  pub opening-is : (L i k : ℕ) → 0 < L → i < M → reopened (lane h A N M f (k + h i)) L L i ≡ getD (opened (lane h A N M f (k + h i)) L) i 0
   opening-is L i k some l =
       reopened-whole (lane h A N M f (k + h i)) L i some ∙ sym (opened-at (lane h A N M f (k + h i)) L i (omega (arith, line-length (k + h i))))
 

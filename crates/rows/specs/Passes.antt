@@ -7,6 +7,12 @@
 --   Dark s light g             every pixel from the major coordinate `light` on is 0
 -- Lines that go down the rows:
 --   Down s g             the lines of s go down the rows of the frame that stands in g
+--   Held s φ m           m has the level φ u for each line u
+--   Aside s i m          lines that are not in row i have the level 0
+--   pixelOf s f i u      line u's pixel in row i of the frame f, 0 where it has none
+--   low s f w i u        line u's darkest pixel in the w rows from row i on, 0 where there are fewer
+--   high s f w i u       its brightest pixel in the w rows up to row i, or in as many as there are
+--   ErodesRows s L f lo hi   the rows lo up to, not including, hi hold f's windows of L rows, where these fit; every byte out of these rows is as it was
 -- Lines that go along the rows, and bend from one to the next:
 --   Slanted s g          the lines of s go along the rows of the frame that stands in g
 --   startOf up N S t     where row t starts, counted from the last of N rows where `up`
@@ -30,7 +36,8 @@ use lib.Dec.{eqb, ltb}
 use lib.ListN.{length, getD}
 use Rattle.frame.specs.declared.sweep.Sweep.{Sweep}
 use Rattle.frame.specs.Lines.{r}
-use Rattle.frame.specs.Sweep.{shift, Sane}
+use Rattle.frame.specs.Sweep.{shift, lines, Sane}
+use Rattle.line.specs.Windows.{dilatedAt}
 use Rattle.line.specs.Passes.{erodedTo, reopened}
 use Rattle.rows.specs.Rows.{spot, laneAt, lane, PixelsAre}
 
@@ -64,6 +71,26 @@ pub record Down (s : Sweep) (g : List ℕ) : Type 0 where
   pub next : s .minor ≡ 1
   pub apart : s .minors ≤ s .major
   pub room : (s .majors - 1) * s .major + s .minors ≤ length g
+
+pub record Held (s : Sweep) (φ : ℕ → ℕ) (m : List ℕ) : Type 0 where
+  pub level : (u : ℕ) → u < lines s → getD m u 0 ≡ φ u
+
+pub record Aside (s : Sweep) (i : ℕ) (m : List ℕ) : Type 0 where
+  pub none : (u : ℕ) → u < lines s → (u < shift s i) ⊎ (shift s i + s .minors ≤ u) → getD m u 0 ≡ 0
+
+abbrev pub pixelOf : Sweep → List ℕ → ℕ → ℕ → ℕ
+pixelOf s f i u = laneAt (shift s) (spot s) (s .minors) f u i
+
+abbrev pub low : Sweep → List ℕ → ℕ → ℕ → ℕ → ℕ
+low s f w i u = erodedTo (lane (shift s) (spot s) (s .minors) (s .majors) f u) w i
+
+abbrev pub high : Sweep → List ℕ → ℕ → ℕ → ℕ → ℕ
+high s f w i u = dilatedAt (lane (shift s) (spot s) (s .minors) (s .majors) f u) w i
+
+pub record ErodesRows (s : Sweep) (L : ℕ) (f : List ℕ) (lo hi : ℕ) (before after : List ℕ) : Type 0 where
+  pub same : length after ≡ length before
+  pub within : (i k : ℕ) → lo ≤ i → i < hi → i + L ≤ s .majors → k < s .minors → getD after (i * s .major + k) 0 ≡ low s f L i (k + shift s i)
+  pub other : (x : ℕ) → ((i k : ℕ) → lo ≤ i → i < hi → k < s .minors → x ≡ i * s .major + k → ⊥) → getD after x 0 ≡ getD before x 0
 
 -- ---- lines that go along the rows, and bend
 

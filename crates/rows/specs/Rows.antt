@@ -81,11 +81,11 @@ pub record OpensShallow (sh : Shape) (d : Direction) (L : ℕ) (before after mar
   pub done : opensShallow sh d L before (length marks) ≡ true → OpensLines (sweepOf sh d) L before after
   pub none : opensShallow sh d L before (length marks) ≡ false → (after ≡ before) × (marks′ ≡ marks)
 
--- what `raise_frame` leaves of a frame of shape sh that stands in a buffer, of one of n bytes to open the frame f in, and of one of m bytes for marks
+-- what `raise_frame` leaves of a frame of shape sh that stands in a buffer, of one of n bytes to open the frame f in, and of one of m bytes for marks or levels
 abbrev pub raisesFrame : Shape → Direction → ℕ → List ℕ → ℕ → ℕ → List ℕ → Bool
 raisesFrame sh d L f n m before =
     isFrame sh
-    && (isDirection d && (leb 1 L && (leb (needed sh) (length f) && (leb (needed sh) n && (leb (sh .width) m && leb (needed sh) (length before))))))
+    && (isDirection d && (leb 1 L && (leb (needed sh) (length f) && (leb (needed sh) n && (leb (sh .width + sh .height) m && leb (needed sh) (length before))))))
 
 pub record RaisesFrame (sh : Shape) (d : Direction) (L : ℕ) (f work work′ marks marks′ before after : List ℕ) : Type 0 where
   pub same : (length work′ ≡ length work) × (length marks′ ≡ length marks)

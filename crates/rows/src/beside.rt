@@ -1,23 +1,24 @@
-// A frame raised by another that is opened beside it: the opening begins in the source and ends in the frame it raises, and is between them, in a third one, by
-// passes in place.
+// A frame raised by another that is opened beside it: the opening begins in the source and ends in the frame it raises, and is between them in a third one. Nothing
+// is copied before, and nothing is raised after.
 use crate::shallow::raise_along;
 use crate::steep::raise_down;
 use frame::Direction;
 use frame::Shape;
 ghost use Rattle.rows.specs.Rows.{RaisesFrame};
 
-// Each pixel of the frame dst becomes the brighter of itself and that of the frame src opened in the direction d, which is opened in `work`; `bends` is for marks. Where
-// rule 1, 2, 3 or 5 would refuse, or `work` or dst has no room for the frame or `bends` for a mark a column, nothing changes.
+// Each pixel of the frame dst becomes the brighter of itself and that of the frame src opened in the direction d, which is opened in `work`; `slate` is for
+// marks or levels. Where rule 1, 2, 3 or 5 would refuse, or `work` or dst has no room for the frame or `slate` for a byte for each row and each column, nothing
+// changes.
 pub fn raise_frame(
     src: &[u8],
     shape: Shape,
     d: Direction,
     length: usize,
     work: &mut [u8],
-    bends: &mut [u8],
+    slate: &mut [u8],
     dst: &mut [u8],
 )
-    ensures { λ _. ⌜ RaisesFrame shape d length (now (src .entry)) (now (work .entry)) (now (work .exit)) (now (bends .entry)) (now (bends .exit)) (now (dst .entry)) (now (dst .exit)) ⌝ }
+    ensures { λ _. ⌜ RaisesFrame shape d length (now (src .entry)) (now (work .entry)) (now (work .exit)) (now (slate .entry)) (now (slate .exit)) (now (dst .entry)) (now (dst .exit)) ⌝ }
 {
     if !shape.is_frame() {
         return;
@@ -35,7 +36,7 @@ pub fn raise_frame(
     if work.len() < bytes {
         return;
     }
-    if bends.len() < shape.width {
+    if slate.len() < shape.width + shape.height {
         return;
     }
     if dst.len() < bytes {
@@ -43,8 +44,8 @@ pub fn raise_frame(
     }
     let s = frame::sweep_of(shape, d);
     if d.is_shallow() {
-        raise_along(src, s, length, work, bends, dst);
+        raise_along(src, s, length, work, slate, dst);
         return;
     }
-    raise_down(src, s, length, work, dst);
+    raise_down(src, s, length, work, slate, dst);
 }

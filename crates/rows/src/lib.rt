@@ -1,7 +1,10 @@
-// The opening of a frame in one direction by passes over whole rows, in place or beside another frame that it raises: line for line the passes of crate `line`,
-// and every one of them a flat loop over neighbouring bytes. No line is gathered, and nothing is laid aside but, in a shallow direction, a row of marks.
+// The opening of a frame in one direction row by row, in place or beside another frame that it raises: every pass is a flat loop over neighbouring bytes. No
+// line is gathered, and nothing is laid aside but, along the rows, a row of marks, and down them, where a frame is raised, a byte for each line.
 mod beside;
+mod brightest;
+mod darkest;
 mod first;
+mod levels;
 mod marks;
 mod pass;
 mod raise;

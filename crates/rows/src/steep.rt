@@ -1,23 +1,25 @@
-// The opening of a frame whose lines go down its rows, in place or beside another that it raises: the windows' length doubles from one pass to the next.
-use crate::first::first_rows;
-use crate::pass::before_last;
+// The opening of a frame whose lines go down its rows: in place, where the windows' length doubles from one pass to the next, or beside another frame that it
+// raises, where rows go by blocks.
+use crate::brightest::raise_beside;
+use crate::darkest::erode_beside;
 use crate::pass::clear_rows;
 use crate::pass::dilate_rows;
 use crate::pass::erode_rows;
-use crate::raise::raise_rows;
 use frame::Direction;
 use frame::Shape;
 use frame::Sweep;
 ghost use Prim.Native.Nat.{_+_, _-_, _≤_};
+ghost use lib.ListN;
+ghost use Rattle.frame.specs.Sweep.{lines};
 ghost use Rattle.rows.specs.Rows.{OpensLines, RaisesLines, OpensSteep};
 ghost use Rattle.rows.specs.Passes.{Down, Dark, ErodesOn, DilatesLines};
 
-// From an erosion by windows of `from` rows to that by windows of `length`. From row majors + 1 − w on no window of w rows fits, so these rows are dark.
-fn erode_down(buf: &mut [u8], s: Sweep, from: usize, length: usize)
-    requires { ⌜ Down s (now buf) × (1 ≤ from) × (from ≤ length) × (length ≤ s .majors) × Dark s (s .majors + 1 - from) (now buf) ⌝ }
-    ensures { λ _. ⌜ ErodesOn s from length (now (buf .entry)) (now (buf .exit)) × Dark s (s .majors + 1 - length) (now (buf .exit)) ⌝ }
+// The erosion by windows of `length` rows. From row majors + 1 − w on no window of w rows fits, so these rows are dark.
+fn erode_down(buf: &mut [u8], s: Sweep, length: usize)
+    requires { ⌜ Down s (now buf) × (1 ≤ length) × (length ≤ s .majors) ⌝ }
+    ensures { λ _. ⌜ ErodesOn s 1 length (now (buf .entry)) (now (buf .exit)) × Dark s (s .majors + 1 - length) (now (buf .exit)) ⌝ }
 {
-    let mut w = from;
+    let mut w = 1;
     while w < length {
         let e = line::growth(w, length);
         erode_rows(buf, s, s.majors + 1 - w, e);
@@ -25,15 +27,15 @@ fn erode_down(buf: &mut [u8], s: Sweep, from: usize, length: usize)
     }
 }
 
-// From the erosion of any frame by windows of `length` rows to its dilation by windows of `reach`, with `length` to its opening. The erosion is dark from row
-// majors + 1 − length on; windows of w reach w − 1 rows further.
-fn dilate_down(buf: &mut [u8], s: Sweep, length: usize, reach: usize)
-    requires { ⌜ Down s (now buf) × (1 ≤ reach) × (reach ≤ length) × (length ≤ s .majors) × Dark s (s .majors + 1 - length) (now buf) ⌝ }
-    ensures { λ _. ⌜ DilatesLines s length reach (now (buf .entry)) (now (buf .exit)) ⌝ }
+// From the erosion of any frame by windows of `length` rows to its opening. The erosion is dark from row majors + 1 − length on; windows of w reach w − 1 rows
+// further.
+fn dilate_down(buf: &mut [u8], s: Sweep, length: usize)
+    requires { ⌜ Down s (now buf) × (1 ≤ length) × (length ≤ s .majors) × Dark s (s .majors + 1 - length) (now buf) ⌝ }
+    ensures { λ _. ⌜ DilatesLines s length length (now (buf .entry)) (now (buf .exit)) ⌝ }
 {
     let mut w = 1;
-    while w < reach {
-        let e = line::growth(w, reach);
+    while w < length {
+        let e = line::growth(w, length);
         dilate_rows(buf, s, s.majors - length + w, e);
         w += e;
     }
@@ -47,27 +49,27 @@ fn open_down(buf: &mut [u8], s: Sweep, length: usize)
         clear_rows(buf, s.major, s.minors, 0, s.majors);
         return;
     }
-    erode_down(buf, s, 1, length);
-    dilate_down(buf, s, length, length);
+    erode_down(buf, s, length);
+    dilate_down(buf, s, length);
 }
 
-// Raises dst by the opening of src, by way of `work`. Windows of one row are the frame itself, and where none fits all is dark.
-pub(crate) fn raise_down(src: &[u8], s: Sweep, length: usize, work: &mut [u8], dst: &mut [u8])
-    requires { ⌜ Down s (now src) × Down s (now work) × Down s (now dst) × (1 ≤ length) ⌝ }
+// Raises dst by the opening of src, by way of its erosion in `work`; `levels` has room for a byte a line. Where no window fits all is dark.
+pub(crate) fn raise_down(
+    src: &[u8],
+    s: Sweep,
+    length: usize,
+    work: &mut [u8],
+    levels: &mut [u8],
+    dst: &mut [u8],
+)
+    requires { ⌜ Down s (now src) × Down s (now work) × Down s (now dst) × (1 ≤ length) × (lines s ≤ lib.ListN.length (now levels)) ⌝ }
     ensures { λ _. ⌜ RaisesLines s length (now (src .entry)) (now (dst .entry)) (now (dst .exit)) ⌝ }
 {
     if s.majors < length {
         return;
     }
-    if length < 2 {
-        raise_rows(src, s, 0, dst);
-        return;
-    }
-    let reach = before_last(length);
-    first_rows(src, s, work);
-    erode_down(work, s, 2, length);
-    dilate_down(work, s, length, reach);
-    raise_rows(work, s, length - reach, dst);
+    erode_beside(src, s, length, levels, work);
+    raise_beside(work, s, length, levels, dst);
 }
 
 // Opens the frame that stands in buf in a steep direction. Where rule 1, 2, 3 or 5 would refuse, or the direction is shallow, nothing changes.

@@ -2,6 +2,7 @@
 -- does not fit changes nothing.
 --   open-lanes-once                                              lines opened where they stand
 --   darken-once, brighten-once, darken-bent-once, brighten-bent-once, blacken-once, blacken-bent-once, copy-once    the passes over bytes
+--   darken-by-once, brighten-by-once, lay-once                   the passes over one buffer whose partners stand in another
 --   darken-into-once, darken-bent-into-once, raise-once, raise-bent-once    the passes from one buffer into another
 --   open-steep-once, open-shallow-once                           a frame opened where it stands
 --   raise-by-rows-once                                           a frame opened beside another, which it raises
@@ -21,7 +22,7 @@ use Rattle.lists.specs.Stores.{Filled}
 use Rattle.lists.proofs.Cases.{less-or-not, both-left, both-right}
 use Rattle.lists.proofs.Stores.{filled-once}
 use Rattle.line.specs.Lanes.{OpensFront}
-use Rattle.passes.specs.Passes.{Darkens, Brightens, DarkensBent, BrightensBent, Clears, ClearsBent, DarkensInto, DarkensBentInto, Raises, RaisesBent, Copies}
+use Rattle.passes.specs.Passes.{Darkens, Brightens, DarkensBent, BrightensBent, Clears, ClearsBent, DarkensBy, BrightensBy, Lays, DarkensInto, DarkensBentInto, Raises, RaisesBent, Copies}
 use Rattle.passes.proofs.Ways.{both-or-not, all-or-not, upward-or-not, downward-or-not}
 use Rattle.line.proofs.Laws as line
 use Rattle.frame.specs.declared.direction.Direction.{Direction}
@@ -88,6 +89,28 @@ module _ {b b₁ b₂ : List ℕ} (at n : ℕ) where
       once (both-or-not (at-most n (length f)) (at-most n (length b)))
       (λ (there, here). p .done there here) (λ h. p .none (λ there here. h (there, here)))
       (λ (there, here). q .done there here) (λ h. q .none (λ there here. h (there, here)))
+
+module _ (f b : List ℕ) (from n at : ℕ) where
+  apart : ((from + n ≤ length f) × (at + n ≤ length b)) ⊎ ((from + n ≤ length f) × (at + n ≤ length b) → ⊥)
+  apart = both-or-not (at-most (from + n) (length f)) (at-most (at + n) (length b))
+
+  pub darken-by-once : {b₁ b₂ : List ℕ} → DarkensBy f from n at b b₁ → DarkensBy f from n at b b₂ → b₁ ≡ b₂
+  darken-by-once p q =
+      once apart
+      (λ (other, room). p .done other room) (λ h. p .none (λ other room. h (other, room)))
+      (λ (other, room). q .done other room) (λ h. q .none (λ other room. h (other, room)))
+
+  pub brighten-by-once : {b₁ b₂ : List ℕ} → BrightensBy f from n at b b₁ → BrightensBy f from n at b b₂ → b₁ ≡ b₂
+  brighten-by-once p q =
+      once apart
+      (λ (other, room). p .done other room) (λ h. p .none (λ other room. h (other, room)))
+      (λ (other, room). q .done other room) (λ h. q .none (λ other room. h (other, room)))
+
+  pub lay-once : {b₁ b₂ : List ℕ} → Lays f from n at b b₁ → Lays f from n at b b₂ → b₁ ≡ b₂
+  lay-once p q =
+      once apart
+      (λ (other, room). p .done other room) (λ h. p .none (λ other room. h (other, room)))
+      (λ (other, room). q .done other room) (λ h. q .none (λ other room. h (other, room)))
 
 module _ (f b : List ℕ) (at from n : ℕ) where
   there : ((at + n ≤ length f) × (from + n ≤ length f) × (at + n ≤ length b)) ⊎ ((at + n ≤ length f) × (from + n ≤ length f) × (at + n ≤ length b) → ⊥)

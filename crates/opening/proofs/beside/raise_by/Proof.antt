@@ -27,14 +27,19 @@ returns c =
     let b = c .before .before .before .before .before .before .before .before .before .before .before .before in
     c .before .before .before .before .raise-frame .ensures .fitted (ready-fits (b .args .shape) (b .args .d) (b .args .length) _ _ _ (b .pre))
 
-array-borrow-prefix-bends : tie.Need-array-borrow-prefix-bends
-array-borrow-prefix-bends c =
+add-most : tie.Need-add-most
+add-most c =
     let b = c .before .before .before .before .before .before in
+    omega (arith, framed (b .args .shape) (b .pre .ok .frame))
+
+array-borrow-prefix-slate : tie.Need-array-borrow-prefix-slate
+array-borrow-prefix-slate c =
+    let b = c .before .before .before .before .before .before .before in
     omega (arith, framed (b .args .shape) (b .pre .ok .frame))
 
 slice-aggregate-raise-frame : tie.Need-slice-aggregate-raise-frame
 slice-aggregate-raise-frame c =
-    let b = c .before .before .before .before .before .before .before in
+    let b = c .before .before .before .before .before .before .before .before in
     sym (length-take-le _ _ (omega (arith, framed (b .args .shape) (b .pre .ok .frame))))
 
 raise-frame-requires-2 : tie.Need-raise-frame-requires-2
@@ -48,10 +53,10 @@ same-length-4 c = search needs
 
 returns-2 : tie.Need-returns-2
 returns-2 c =
-    let a = c .before .before .before .before .before .before .before .before .before .before .before .before .before .before .args in
-    let pre = c .before .before .before .before .before .before .before .before .before .before .before .before .before .before .pre in
-    let bytes = bytes-needed (pre .ok) (c .before .before .before .before .before .before .before .before .before .before .bytes .ensures) in
-    raised-beside (a .shape) (a .d) (pre .ok) (a .src .now) (a .length) (pre .some) (pre .source) (rw bytes at (c .before .before .before .before .before .before .before .before .before .if1 .left))
+    let a = c .before .before .before .before .before .before .before .before .before .before .before .before .before .before .before .args in
+    let pre = c .before .before .before .before .before .before .before .before .before .before .before .before .before .before .before .pre in
+    let bytes = bytes-needed (pre .ok) (c .before .before .before .before .before .before .before .before .before .before .before .bytes .ensures) in
+    raised-beside (a .shape) (a .d) (pre .ok) (a .src .now) (a .length) (pre .some) (pre .source) (rw bytes at (c .before .before .before .before .before .before .before .before .before .before .if1 .left))
     (front-room _ _ (omega (arith, framed (a .shape) (pre .ok .frame)))) (pre .target) (c .before .before .before .before .before .raise-frame2 .ensures)
 
 pub raise-by-spec : {M : Type 1} → statement M
@@ -63,7 +68,8 @@ raise-by-spec =
     same-length
     same-length-2
     returns
-    array-borrow-prefix-bends
+    add-most
+    array-borrow-prefix-slate
     slice-aggregate-raise-frame
     raise-frame-requires-2
     same-length-3

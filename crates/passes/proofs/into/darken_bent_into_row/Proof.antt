@@ -33,6 +33,9 @@ add-put-block c = search needs
 put-block-requires : tie.Need-put-block-requires Inv-loop μ-loop
 put-block-requires c κs = search needs
 
+sub-blocks : tie.Need-sub-blocks Inv-loop μ-loop
+sub-blocks c = search needs
+
 loop-holds : tie.Need-loop-holds Inv-loop μ-loop
 loop-holds c = (search needs, filled-end (filled-none _ _ _) (omega arith))
 
@@ -82,6 +85,7 @@ darken-bent-into-row-spec =
     darker-bent-block-requires
     add-put-block
     put-block-requires
+    sub-blocks
     loop-holds
     mul-i
     darker-bent-block-requires-2

@@ -5,7 +5,7 @@ use lib.ListN.{getD}
 use Rattle.lists.specs.Stores.{Filled}
 use Rattle.lists.proofs.Stores.{filled-none, filled-end}
 use Rattle.passes.specs.Passes.{straight, met}
-use Rattle.passes.proofs.Blocks.{raise-block, raise-more, raise-over}
+use Rattle.passes.proofs.Blocks.{raise-block, brightened-twice, onto-more, onto-over}
 use borrow.Author.Needs.{needs}
 use Rattle.passes.proofs.into.raise_row.Statement.{statement}
 use Rattle.passes.proofs.into.raise_row.Tie as tie
@@ -34,6 +34,9 @@ add-raise-block c = search needs
 raise-block-requires : tie.Need-raise-block-requires Inv-loop μ-loop
 raise-block-requires c κs = search needs
 
+sub-blocks : tie.Need-sub-blocks Inv-loop μ-loop
+sub-blocks c = search needs
+
 loop-holds : tie.Need-loop-holds Inv-loop μ-loop
 loop-holds c = (search needs, filled-end (filled-none _ _ _) (omega arith))
 
@@ -60,7 +63,7 @@ loop-again c =
     let a = c .before .before .before .before .before .before .before .before .before .before .before .before .before .before .before .args in
     let at = c .before .before .before .before .before .before .loop in
     let filled = at .inv .1 in
-    (omega arith, filled-end (raise-more (met max (straight (a .from)) (a .at) (a .src .now)) filled (raise-block max (straight (a .from)) (a .at) (a .src .now) (c .before .before .before .before .brighter-block2 .result) (64 * at .k) (c .before .before .before .before .brighter-block2 .ensures) (c .before .before .raise-block2 .ensures)) (omega arith) (omega arith)) (omega arith))
+    (omega arith, filled-end (onto-more max (met max (straight (a .from)) (a .at) (a .src .now)) filled (raise-block max (straight (a .from)) (a .at) (a .src .now) (c .before .before .before .before .brighter-block2 .result) (64 * at .k) (c .before .before .before .before .brighter-block2 .ensures) (c .before .before .raise-block2 .ensures)) (omega arith) (omega arith)) (omega arith))
 
 same-length-2 : tie.Need-same-length-2 Inv-loop μ-loop
 same-length-2 c = search needs
@@ -69,7 +72,7 @@ returns-2 : tie.Need-returns-2 Inv-loop μ-loop
 returns-2 c =
     let a = c .before .before .before .before .before .before .before .before .before .before .args in
     let last = raise-block max (straight (a .from)) (a .at) (a .src .now) (c .before .before .before .before .before .before .brighter-block .result) (a .n - 64) (c .before .before .before .before .before .before .brighter-block .ensures) (c .before .before .before .before .raise-block .ensures) in
-    raise-over (met max (straight (a .from)) (a .at) (a .src .now)) (filled-end last (omega arith)) (c .before .loop .inv .1) (omega arith) (omega arith) (omega arith)
+    onto-over max brightened-twice (met max (straight (a .from)) (a .at) (a .src .now)) (filled-end last (omega arith)) (c .before .loop .inv .1) (omega arith) (omega arith) (omega arith)
 
 pub raise-row-spec : {M : Type 1} → statement M
 raise-row-spec =
@@ -83,6 +86,7 @@ raise-row-spec =
     brighter-block-requires
     add-raise-block
     raise-block-requires
+    sub-blocks
     loop-holds
     mul-i
     brighter-block-requires-2

@@ -15,13 +15,13 @@ use Rattle.rows.proofs.steep.dilate_down.Statement.{statement}
 use Rattle.rows.proofs.steep.dilate_down.Tie as tie
 
 abbrev Inv-loop : tie.InvT-loop
-Inv-loop buf₀ s length reach w₀ buf w = (lib.ListN.length buf ≡ lib.ListN.length buf₀) × (1 ≤ w) × (w ≤ reach) × DilatesLines s length w buf₀ buf × Dark s (s .majors - length + w) buf
+Inv-loop buf₀ s length w₀ buf w = (lib.ListN.length buf ≡ lib.ListN.length buf₀) × (1 ≤ w) × (w ≤ length) × DilatesLines s length w buf₀ buf × Dark s (s .majors - length + w) buf
 
 abbrev μ-loop : tie.MeasureT-loop
-μ-loop buf₀ s length reach w₀ buf w = reach - w
+μ-loop buf₀ s length w₀ buf w = length - w
 
 loop-holds : tie.Need-loop-holds Inv-loop μ-loop
-loop-holds c = (refl, search needs, search needs, record { pixels = λ f b e. dilated-start _ _ _ _ f _ (e .pixels) }, λ i k from. c .before .pre .4 i k (omega arith))
+loop-holds c = (refl, search needs, search needs, record { pixels = λ f b e. dilated-start _ _ _ _ f _ (e .pixels) }, λ i k from. c .before .pre .3 i k (omega arith))
 
 growth-requires : tie.Need-growth-requires Inv-loop μ-loop
 growth-requires c κs = search needs
@@ -41,7 +41,7 @@ dilate-rows-requires c κs =
       record { sane = down .sane; next = down .next; apart = down .apart; room = omega (arith, down .room, at .inv .0) },
       at .inv .4,
       omega (arith, at .inv .1, at .inv .2, grown, c .before .before .before .loop-test .taken),
-      omega (arith, pre .1, pre .2, pre .3, at .inv .1, at .inv .2, grown),
+      omega (arith, pre .1, pre .2, at .inv .1, at .inv .2, grown),
     )
 
 add-w : tie.Need-add-w Inv-loop μ-loop

@@ -13,14 +13,14 @@ use Rattle.rows.proofs.steep.erode_down.Statement.{statement}
 use Rattle.rows.proofs.steep.erode_down.Tie as tie
 
 abbrev Inv-loop : tie.InvT-loop
-Inv-loop buf₀ s from length w₀ buf w =
-    (lib.ListN.length buf ≡ lib.ListN.length buf₀) × (1 ≤ w) × (w ≤ length) × ErodesOn s from w buf₀ buf × Dark s (s .majors + 1 - w) buf
+Inv-loop buf₀ s length w₀ buf w =
+    (lib.ListN.length buf ≡ lib.ListN.length buf₀) × (1 ≤ w) × (w ≤ length) × ErodesOn s 1 w buf₀ buf × Dark s (s .majors + 1 - w) buf
 
 abbrev μ-loop : tie.MeasureT-loop
-μ-loop buf₀ s from length w₀ buf w = length - w
+μ-loop buf₀ s length w₀ buf w = length - w
 
 loop-holds : tie.Need-loop-holds Inv-loop μ-loop
-loop-holds c = (refl, search needs, search needs, record { lines = λ f b q. q }, c .before .pre .4)
+loop-holds c = (refl, search needs, search needs, record { lines = λ f b q. q }, λ i k from in′. absurd (omega arith))
 
 growth-requires : tie.Need-growth-requires Inv-loop μ-loop
 growth-requires c κs = search needs
@@ -40,7 +40,7 @@ erode-rows-requires c κs =
       record { sane = down .sane; next = down .next; apart = down .apart; room = omega (arith, down .room, at .inv .0) },
       at .inv .4,
       omega (arith, at .inv .1, at .inv .2, grown, c .before .before .before .loop-test .taken),
-      omega (arith, pre .3, at .inv .1, at .inv .2, grown),
+      omega (arith, pre .2, at .inv .1, at .inv .2, grown),
       omega (arith, at .inv .1),
     )
 

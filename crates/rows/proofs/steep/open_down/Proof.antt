@@ -26,14 +26,13 @@ returns c =
 erode-down-requires : tie.Need-erode-down-requires
 erode-down-requires c κs =
     let pre = c .before .before .before .before .pre in
-    (pre .0, omega arith, pre .1, omega arith, λ i k from in′. absurd (omega arith))
+    (pre .0, pre .1, omega arith)
 
 dilate-down-requires : tie.Need-dilate-down-requires
 dilate-down-requires c κs =
     let down = c .before .before .before .before .before .before .before .before .pre .0 in
     let eroded = c .before .before .before .erode-down in (
       record { sane = down .sane; next = down .next; apart = down .apart; room = omega (arith, down .room, eroded .kept .0) },
-      omega arith,
       omega arith,
       omega arith,
       eroded .ensures .1,
