@@ -26,7 +26,7 @@
 --   rowsOn d m x         so many rows, by the mark of column x
 --   onward, backward     the pixel's neighbour on its line e columns on, or before, by the marks
 --   eroded, dilated      what a pass makes of the pixel in column x of row t
--- Laws: rows/proofs/Lines, Downs, Bends, Slants.
+-- Laws: rows/proofs/Lines, Downs, Abreast, Bends, Slants.
 use mathlib.Core.Path.{_≡_}
 use mathlib.Core.Bool.{Bool, cond}
 use mathlib.Core.List.{List}
