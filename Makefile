@@ -9,7 +9,7 @@ test:
 	@rt fmt --check
 	@check/vectors
 	@check/listing
-	@mkdir -p target && rt check rows strips stretches sums > target/check.log 2>&1 || { tail -n 5 target/check.log; exit 1; }
+	@mkdir -p target && rt check rows stretches sums > target/check.log 2>&1 || { tail -n 5 target/check.log; exit 1; }
 	@check/run
 	@check/host
 	@check/programs

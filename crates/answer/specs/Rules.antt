@@ -1,13 +1,14 @@
 -- Numbers of refusal (document 01): 'Checked in this order, where the rule applies; 0 is done.'
 --   rule b n f         the rule number n: broken where b holds, handing back f
 --   answer rs f        the answer of a call with the rules rs, in their order: the first broken one's; done with the figure f where none is broken
+--   checked a r        the answer a once the rule r is checked too: a refusal stays
 --   after a new old    what a lent buffer holds after a call with the answer a: new where it is done, old where it is refused
 --   outside lo hi n    n is below lo or above hi
 -- Laws: answer/proofs/Rules.
-use mathlib.Core.Bool.{Bool, cond, _||_}
+use mathlib.Core.Bool.{Bool, cond, _&&_, _||_}
 use mathlib.Core.List.{List, [], _∷_}
 use Prim.Native.Nat.{ℕ, zero, suc}
-use lib.Dec.{ltb}
+use lib.Dec.{eqb, ltb}
 use Rattle.answer.specs.declared.Answer.{Answer}
 
 pub record Rule : Type 0 where
@@ -35,6 +36,9 @@ by-number (suc n) new old = old
 -- 'On any refusal no lent buffer changes'
 abbrev pub after : {A : Type 0} → Answer → A → A → A
 after a new old = by-number (a .number) new old
+
+abbrev pub checked : Answer → Rule → Answer
+checked a r = cond (eqb (a .number) 0 && r .broken) (refusal (r .number) (r .figure)) a
 
 abbrev pub outside : ℕ → ℕ → ℕ → Bool
 outside lo hi n = ltb n lo || ltb hi n

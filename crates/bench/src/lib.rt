@@ -4,7 +4,7 @@ use frame::Direction;
 use frame::Shape;
 ghost use Rattle.frame.specs.Direction.{dir};
 ghost use Rattle.frame.specs.Shape.{shape};
-ghost use Rattle.frame.specs.Gathering.{Gathers};
+ghost use Rattle.gathering.specs.Gathering.{Gathers};
 ghost use Rattle.line.specs.Erosion.{ErodesLine};
 ghost use Rattle.line.specs.Dilation.{DilatesLine};
 ghost use Rattle.line.specs.Opening.{OpensLine};
@@ -56,7 +56,7 @@ pub extern "C" fn bench_gather(
         height,
         stride,
     };
-    frame::gather(src, shape, Direction { p, q }, line, dst)
+    gathering::gather(src, shape, Direction { p, q }, line, dst)
 }
 
 #[no_mangle]

@@ -15,11 +15,11 @@ use lib.ListN.{length, getD}
 use borrow.Author.Tests.{ltb-true, ltb-false, lt-ltb, le-ltb, le-leb, lt-leb, leb-true}
 use Rattle.lists.specs.Tables.{keep}
 use Rattle.lists.specs.Extremes.{greatest}
-use Rattle.stretch.specs.declared.Stretch.{Stretch}
-use Rattle.stretch.specs.Stretches.{stretches}
-use Rattle.stretch.specs.Reading.{Run, topLevel, topHolds, topBelow, closed, ended, settled, opened, ending, todo}
-use Rattle.stretch.proofs.Model.{todo-stretches}
-use Rattle.stretch.proofs.Turn.{ended-none, low-top}
+use Rattle.bright.specs.declared.Stretch.{Stretch}
+use Rattle.bright.specs.Stretches.{stretches}
+use Rattle.bright.specs.Reading.{Run, topLevel, topHolds, topBelow, closed, ended, settled, opened, ending, todo}
+use Rattle.bright.proofs.Model.{todo-stretches}
+use Rattle.bright.proofs.Turn.{ended-none, low-top}
 use Rattle.bridge.specs.Reach.{long, over, reaching}
 
 unfoldable pub holders : ℕ → List Stretch → List Stretch

@@ -7,7 +7,7 @@ use lib.Dec.{eqb, ltb}
 use Rattle.lists.specs.Tables.{each, table}
 use Rattle.lists.specs.Extremes.{least, greatest, total}
 use Rattle.line.specs.Windows.{opened}
-use Rattle.stretch.specs.Stretches.{levelOf, isStretch, stretchOf, endingAt, stretches}
+use Rattle.bright.specs.Stretches.{levelOf, isStretch, stretchOf, endingAt, stretches}
 use Rattle.bridge.specs.Sums.{binFor, restFor, lightOf}
 
 abbrev line : List ℕ

@@ -13,15 +13,16 @@ use lib.Dec.{ltb, leb}
 use lib.ListN.{length, getD}
 use borrow.Author.Tests.{leb-true, ltb-true, le-leb, lt-ltb}
 use Rattle.lists.specs.Tables.{keep}
+use Rattle.lists.specs.Members.{All}
 use Rattle.lists.specs.Extremes.{greatest}
 use Rattle.lists.proofs.Cases.{both, both-left, both-right}
 use Rattle.line.specs.Windows.{darkest, openedAt, opened}
 use Rattle.line.proofs.Windows.{le-opened-at, opened-at-le, opened-at}
-use Rattle.stretch.specs.declared.Stretch.{Stretch}
-use Rattle.stretch.specs.Stretches.{levelOf, stretchOf, stretches}
-use Rattle.stretch.proofs.Levels.{level-part}
-use Rattle.stretch.proofs.Listed.{Bright, All, all-intro, all-elim}
-use Rattle.stretch.proofs.Nest.{Around, extend, around-bright}
+use Rattle.bright.specs.declared.Stretch.{Stretch}
+use Rattle.bright.specs.Stretches.{levelOf, stretchOf, stretches, Bright}
+use Rattle.bright.proofs.Levels.{level-part}
+use Rattle.bright.proofs.Listed.{all-intro, all-elim}
+use Rattle.bright.proofs.Nest.{Around, extend, around-bright}
 use Rattle.bridge.specs.Reach.{long, over, reaching}
 
 -- ---- the greatest of the levels that reach, by its bounds

@@ -15,13 +15,14 @@ use lib.Dec.{ltb, leb, eqb}
 use lib.ListN.{length, getD}
 use borrow.Author.Tests.{ltb-true, ltb-false, le-leb, lt-leb, leb-true, leb-false, eqb-true, eqb-false}
 use Rattle.lists.specs.Tables.{each, keep, table}
+use Rattle.lists.specs.Members.{All}
 use Rattle.lists.specs.Extremes.{total}
 use Rattle.lists.proofs.Tables.{table-same, table-by}
 use Rattle.lists.proofs.Extremes.{total-table, total-add, total-zero}
 use Rattle.line.specs.Windows.{openedAt, opened}
-use Rattle.stretch.specs.declared.Stretch.{Stretch}
-use Rattle.stretch.specs.Stretches.{stretchOf, stretches}
-use Rattle.stretch.proofs.Listed.{All, all-intro}
+use Rattle.bright.specs.declared.Stretch.{Stretch}
+use Rattle.bright.specs.Stretches.{stretchOf, stretches}
+use Rattle.bright.proofs.Listed.{all-intro}
 use Rattle.bridge.specs.Reach.{long, over}
 use Rattle.bridge.specs.Sums.{sumFor, binFor, restFor, light, lightOf}
 use Rattle.bridge.proofs.Chain.{holders, gainOf, holders-chain, gain-whole, gain-reaching}

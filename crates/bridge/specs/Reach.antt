@@ -8,7 +8,7 @@ use mathlib.Core.List.{List, [], _∷_, _++_}
 use Prim.Native.Nat.{ℕ, _-_}
 use lib.Dec.{leb, ltb}
 use Rattle.lists.specs.Tables.{keep}
-use Rattle.stretch.specs.declared.Stretch.{Stretch}
+use Rattle.bright.specs.declared.Stretch.{Stretch}
 
 abbrev pub long : Stretch → ℕ
 long s = s .end - s .start

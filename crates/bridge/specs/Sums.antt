@@ -10,7 +10,7 @@ use mathlib.Core.List.{List, [], _∷_}
 use Prim.Native.Nat.{ℕ, suc, _+_, _-_, _*_}
 use Rattle.lists.specs.Extremes.{total}
 use Rattle.line.specs.Windows.{opened}
-use Rattle.stretch.specs.declared.Stretch.{Stretch}
+use Rattle.bright.specs.declared.Stretch.{Stretch}
 use Rattle.bridge.specs.Reach.{long}
 
 -- 'The sum for a length is the total of the opened pixels.'

@@ -1,54 +1,34 @@
--- The lent row; and along, a line is a row.
---   row-ends, row-fits                 a row ends within what the frame needs, and so within the slice
---   row-is, row-length, row-pixel      the row that is lent back, its length and its pixels
+-- Along, a line is a row.
+--   row-ends                           a row ends within what the frame needs
 --   flat-shallow, flat-sweep, flat-shift    a direction without a slope: it is shallow, its sweep, and its lines do not move aside
 --   along-count, along-line            in such a direction the frame has a line for each row, and line u is row u
 -- Assumes nothing.
-use mathlib.Core.Path.{_≡_, refl, sym, ap, _∙_}
+use mathlib.Core.Path.{_≡_, refl, ap, _∙_}
 use mathlib.Core.Bool.{Bool, true, false}
 use mathlib.Core.List.{List}
 use Prim.Native.Nat.{ℕ, _+_, _-_, _*_, _≤_, _<_}
 use native.Mathlib.Nat.{mul-zero, mul-le-mul-right, div-eq-of-lt}
 use native.Mathlib.Omega.{arith}
-use borrow.Author.Tests.{le-leb, lt-ltb}
-use lib.ListN.{length, getD, take, drop, length-drop}
-use lib.Seq.{length-take-le, getD-take, getD-drop}
+use borrow.Author.Tests.{le-leb}
+use lib.ListN.{getD}
 use lib.IntN.{pos, natAbs, _+ℤ_}
 use Rattle.lists.specs.Tables.{table}
-use Rattle.lists.proofs.Tables.{table-same, table-by}
+use Rattle.lists.proofs.Tables.{table-same}
 use Rattle.lists.proofs.Picks.{map-table, those-stretch}
 use Rattle.frame.specs.declared.direction.Direction.{Direction}
 use Rattle.frame.specs.declared.shape.Shape.{Shape}
 use Rattle.frame.specs.declared.sweep.Sweep.{Sweep}
 use Rattle.frame.specs.Direction.{shallow, opposite}
-use Rattle.frame.specs.Shape.{isFrame, needed}
+use Rattle.frame.specs.Shape.{needed}
 use Rattle.frame.specs.Lines.{r, at, place, gathered, firstLine, lineCount}
-use Rattle.frame.specs.Rows.{rowOf}
 use Rattle.frame.specs.Sweep.{sweeping, sweepOf, shift, hit, cell, cells, valuesAt, Accepted, Sane}
 use Rattle.frame.proofs.Shapes.{accepted-some, sweep-sane}
 use Rattle.frame.proofs.Walks.{hit-at, values-are}
 use Rattle.frame.proofs.Spans.{shift-falling, shift-rising}
 use Rattle.frame.proofs.Pixels.{number, count-is}
 
--- ---- the lent row
-
 pub row-ends : (sh : Shape) (y : ℕ) → y < sh .height → y * sh .stride + sh .width ≤ needed sh
 row-ends sh y here = let k : y * sh .stride ≤ (sh .height - 1) * sh .stride = mul-le-mul-right (sh .stride) (omega arith) in omega arith
-
-module _ (f : List ℕ) (sh : Shape) (y : ℕ) (ok : isFrame sh ≡ true) (fits : needed sh ≤ length f) (here : y < sh .height) where
-  pub row-fits : y * sh .stride + sh .width ≤ length f
-  row-fits = omega (arith, row-ends sh y here)
-
-  pub row-is : rowOf f sh y ≡ take (sh .width) (drop (y * sh .stride) f)
-  row-is = rw (ok, le-leb (needed sh) (length f) fits, lt-ltb y (sh .height) here)
-
-  pub row-length : length (rowOf f sh y) ≡ sh .width
-  row-length =
-      ap length row-is ∙ length-take-le (sh .width) (drop (y * sh .stride) f) (omega (arith, length-drop (y * sh .stride) f, row-fits))
-
-  pub row-pixel : (x : ℕ) → x < sh .width → getD (rowOf f sh y) x 0 ≡ getD f (place sh (at x y)) 0
-  row-pixel x h =
-      ap (λ (l : List ℕ). getD l x 0) row-is ∙ getD-take (sh .width) (drop (y * sh .stride) f) x 0 h ∙ getD-drop (y * sh .stride) f x 0
 
 -- ---- lines without a slope
 
@@ -101,8 +81,8 @@ module _ (sh : Shape) (d : Direction) (ok : Accepted sh d) (flat : natAbs (d .q)
       let top : s .top ≡ 0 = sane .top ∙ r-flat (s .run) (s .rise) (s .majors - 1) (sane .moves) level in
       count-is sh d ∙ omega (arith, top, ap (λ (s : Sweep). s .minors) (flat-sweep sh d flat))
 
-  pub along-line : (f : List ℕ) → needed sh ≤ length f → (u : ℕ) → u < sh .height → gathered f sh d (firstLine sh d +ℤ pos u) ≡ rowOf f sh u
-  along-line f fits u here =
+  pub along-line : (f : List ℕ) (u : ℕ) → u < sh .height → gathered f sh d (firstLine sh d +ℤ pos u) ≡ table (λ (x : ℕ). getD f (place sh (at x u)) 0) (sh .width)
+  along-line f u here =
       let s = sweepOf sh d in
       let wide : s .majors ≡ sh .width = ap (λ (s : Sweep). s .majors) (flat-sweep sh d flat) in
       let high : s .minors ≡ sh .height = ap (λ (s : Sweep). s .minors) (flat-sweep sh d flat) in
@@ -112,8 +92,6 @@ module _ (sh : Shape) (d : Direction) (ok : Accepted sh d) (flat : natAbs (d .q)
       ∙ values-are sh d (accepted-some ok) u f
       ∙ ap (valuesAt f) (cells-flat s u flat-shift (omega arith))
       ∙ map-table (λ (c : ℕ). getD f c 0) (λ (i : ℕ). i * s .major + u * s .minor) (s .majors)
-      ∙ sym
-      (table-by 0 (rowOf f sh u) (λ (i : ℕ). getD f (i * s .major + u * s .minor) 0) (s .majors) (row-length f sh u (ok .frame) fits here ∙ sym wide)
-      (λ i h.
-      row-pixel f sh u (ok .frame) fits here i (omega arith)
-      ∙ ap (λ (c : ℕ). getD f c 0) (omega (arith, ap (λ (m : ℕ). i * m) one, ap (λ (m : ℕ). u * m) apart))))
+      ∙ table-same (λ (i : ℕ). getD f (i * s .major + u * s .minor) 0) (λ (x : ℕ). getD f (place sh (at x u)) 0) (s .majors)
+      (λ i h. ap (λ (c : ℕ). getD f c 0) (omega (arith, ap (λ (m : ℕ). i * m) one, ap (λ (m : ℕ). u * m) apart)))
+      ∙ ap (table (λ (x : ℕ). getD f (place sh (at x u)) 0)) wide

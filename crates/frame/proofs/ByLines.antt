@@ -1,89 +1,34 @@
--- A frame treated line by line: from the sweep's indices to document 01's line numbers, and what it says of each pixel.
---   by-lines        every line of the sweep treated is every line of document 01 treated
---   cell-pixel      each byte of a line is a pixel's
+-- A frame treated line by line: what it says of each pixel.
+--   Gap             a byte that is no pixel's
 --   frames-same     two frames that agree at each pixel and between the rows are the same
 --   one-outcome     one source and destination allow one outcome alone
+--   map-at          the j-th of what is made of each pixel of a list
 --   at-place        a line's pixel has the value at its place on the line
 --   own-value       each pixel of the frame has the value at its place on its own line
 -- Assumes nothing.
 use mathlib.Core.Path.{_≡_, refl, sym, ap, _∙_, subst}
-use mathlib.Core.Bool.{Bool, true, false}
+use mathlib.Core.Bool.{true}
 use mathlib.Core.Logic.{_⊎_, inl, inr}
 use mathlib.Core.List.{List, [], _∷_, map, List·Memᴰ, List·Memᴰ·not-nil, List·Memᴰ·cases-cons}
-use Prim.Native.Nat.{ℕ, zero, suc, _+_, _-_, _*_, _/_, _%_, _≤_, _<_}
+use Prim.Native.Nat.{ℕ, zero, suc, _+_, _*_, _/_, _%_, _≤_, _<_}
 use native.Mathlib.Omega.{arith}
 use native.Mathlib.Nat.{div-add-mod', mod-lt, le-of-suc-le-suc}
 use lib.ListN.{length, getD}
 use lib.Seq.{ext-getD}
-use lib.IntN.{ℤ, natAbs, subℕ}
+use lib.IntN.{ℤ}
 use Rattle.lists.proofs.Cases.{less-or-not}
-use Rattle.lists.proofs.Picks.{Picked}
 use Rattle.frame.specs.declared.direction.Direction.{Direction}
 use Rattle.frame.specs.declared.shape.Shape.{Shape}
-use Rattle.frame.specs.Direction.{isDirection, shallow, opposite}
 use Rattle.frame.specs.Shape.{isFrame}
-use Rattle.frame.specs.Lines.{lineOf, Pixel, at, pixels, place, gathered, lineRead}
+use Rattle.frame.specs.Lines.{lineOf, Pixel, at, pixels, place, lineRead}
 use Rattle.frame.specs.ByLines.{ByLines}
-use Rattle.frame.specs.Sweep.{sweeping, sweepOf, shift, low, hit, cell, cells, Swept}
-use Rattle.frame.proofs.Numbers.{Index, indexed}
-use Rattle.frame.proofs.Shapes.{Framed, framed, directed}
-use Rattle.frame.proofs.Walks.{hits, cells-mem, pixels-none, values-are}
-use Rattle.frame.proofs.Scatters.{sized-none, flat}
+use Rattle.frame.proofs.Shapes.{Framed, framed}
+use Rattle.frame.proofs.Partition.{flat}
 use Rattle.frame.proofs.Pixels.{on-its-line}
 
 -- byte i is no pixel's
 abbrev pub Gap : Shape → ℕ → Type 0
 Gap sh i = (x y : ℕ) → x < sh .width → y < sh .height → i ≡ place sh (at x y) → ⊥
-
--- ---- from the sweep to the lines
-
--- each byte of a line is a pixel's
-shallow-cell : (sh : Shape) (a b : ℕ) (f : Bool) (u i : ℕ) → (let s = sweeping (sh .width) (sh .height) 1 (sh .stride) a b f in Picked (hit s u) (cell s u) (sh .width) i)
-    → Gap sh i → ⊥
-unfolding cell
-shallow-cell sh a b f u i m none =
-    let s = sweeping (sh .width) (sh .height) 1 (sh .stride) a b f in
-    let h = hits s u (m .i) (m .passed) in
-    none (m .i) (u - shift s (m .i)) (m .below) (omega (arith, h)) (m .is ∙ omega arith)
-
-steep-cell : (sh : Shape) (a b : ℕ) (f : Bool) (u i : ℕ) → (let s = sweeping (sh .height) (sh .width) (sh .stride) 1 a b f in Picked (hit s u) (cell s u) (sh .height) i)
-    → Gap sh i → ⊥
-unfolding cell
-steep-cell sh a b f u i m none =
-    let s = sweeping (sh .height) (sh .width) (sh .stride) 1 a b f in
-    let h = hits s u (m .i) (m .passed) in
-    none (u - shift s (m .i)) (m .i) (omega (arith, h)) (m .below) (m .is ∙ omega arith)
-
-pub cell-pixel : (sh : Shape) (d : Direction) (u i : ℕ) → List·Memᴰ i (cells (sweepOf sh d) u (sweepOf sh d .majors)) → Gap sh i → ⊥
-unfolding sweepOf
-cell-pixel sh d u i m none = go (shallow d) refl
-  where
-    go : (t : Bool) → shallow d ≡ t → ⊥
-    go true e =
-        let s = sweeping (sh .width) (sh .height) 1 (sh .stride) (natAbs (d .p)) (natAbs (d .q)) (opposite d) in
-        shallow-cell sh (natAbs (d .p)) (natAbs (d .q)) (opposite d) u i (cells-mem s u (sh .width) i (rw e at m)) none
-    go false e =
-        let s = sweeping (sh .height) (sh .width) (sh .stride) 1 (natAbs (d .q)) (natAbs (d .p)) (opposite d) in
-        steep-cell sh (natAbs (d .q)) (natAbs (d .p)) (opposite d) u i (cells-mem s u (sh .height) i (rw e at m)) none
-
-module _ (φ : List ℕ → List ℕ) (sized : (l : List ℕ) → length (φ l) ≡ length l) (sh : Shape) (d : Direction) (v : isDirection d ≡ true) (f g g′ : List ℕ) where
-  pub by-lines : Swept φ (sweepOf sh d) f g g′ → ByLines φ f sh d g g′
-  by-lines p =
-      record {
-        same = p .same;
-        lines = λ k. line k (indexed (low (sweepOf sh d)) k);
-        gaps = λ i h. p .gaps i (λ u m. cell-pixel sh d u i m h);
-      }
-    where
-      line : (k : ℤ) → Index (low (sweepOf sh d)) k ⊎ ((u : ℕ) → subℕ u (low (sweepOf sh d)) ≡ k → ⊥) → gathered g′ sh d k ≡ φ (lineRead f sh d k)
-      line k (inl x) =
-          let some = directed d v .some in
-          subst (λ (z : ℤ). gathered g′ sh d z ≡ φ (lineRead f sh d z)) (x .is)
-          (values-are sh d some (x .u) g′ ∙ p .lines (x .u) ∙ sym (ap φ (values-are sh d some (x .u) f)))
-      line k (inr none) =
-          let e = pixels-none sh d (directed d v .some) k none in
-          ap (map (λ (c : Pixel). getD g′ (place sh c) 0)) e
-          ∙ sym (ap (λ (cs : List Pixel). φ (map (λ (c : Pixel). getD f (place sh c) 0) cs)) e ∙ sized-none φ sized)
 
 -- ---- one outcome
 
@@ -127,7 +72,7 @@ one-outcome φ f sh d g a b ok p q =
 
 -- ---- each pixel has the value at its place on its own line
 
-map-at : (h : Pixel → ℕ) (cs : List Pixel) (j : ℕ) → j < length cs → getD (map h cs) j 0 ≡ h (getD cs j (at 0 0))
+pub map-at : (h : Pixel → ℕ) (cs : List Pixel) (j : ℕ) → j < length cs → getD (map h cs) j 0 ≡ h (getD cs j (at 0 0))
 map-at h [] j l = absurd (omega arith)
 map-at h (c ∷ cs) zero l = refl
 map-at h (c ∷ cs) (suc j) l = map-at h cs j (le-of-suc-le-suc l)

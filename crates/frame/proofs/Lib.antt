@@ -13,10 +13,11 @@
 --   Walks          the sweep has document 01's lines
 --   Spans          at which major coordinates lines have their pixels
 --   Tracks         where a line is, from its number
---   Scatters       values stored at places
---   Partition      no two pixels share a byte; one line treated after the other
---   Alongs         the lent row; along, a line is a row
---   Calls          what the calls answer, and what they know once they are not refused
+--   Firsts         the numbers of the lines, at the machine's edge
+--   Partition      no two pixels share a byte
+--   Spots          a pixel among others, and on its line of the sweep
+--   Paintings      painted frames
+--   Alongs         along, a line is a row
 pub mod Directions
 pub mod Numbers
 pub mod Rounding
@@ -29,8 +30,9 @@ pub mod Alongs
 pub mod Opposites
 pub mod Examples
 pub mod Tracks
-pub mod Scatters
+pub mod Firsts
 pub mod Partition
+pub mod Spots
 pub mod ByLines
+pub mod Paintings
 pub mod Light
-pub mod Calls

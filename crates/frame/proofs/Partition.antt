@@ -1,30 +1,40 @@
--- No two pixels of a frame share a byte, and lines that are treated one after the other do not touch each other.
---   same-cell               one byte, one pixel
---   disjoint, distinct, line-once    two lines have no byte in common, and a line has each of its bytes once
---   Partly                  the lines below u are treated, and what is on no line is as it was
---   partly-none, partly-more, partly-all    no line yet, one line more, and every line
+-- No two pixels of a frame share a byte.
+--   flat                    a place in a row, and its row
+--   place-once              one byte, one pixel of a frame; same-cell: of a sweep
+--   Distinct, distinct-next no place twice
+--   distinct, line-once     a line has each of its bytes once
 -- Assumes nothing.
 use mathlib.Core.Path.{_≡_, refl, sym, ap, _∙_, subst}
 use mathlib.Core.Bool.{Bool, true, false}
 use mathlib.Core.Logic.{_⊎_, inl, inr, ⊎-elim}
-use mathlib.Core.List.{List, map, List·Memᴰ, append-nil}
-use Prim.Native.Nat.{ℕ, zero, suc, _+_, _-_, _*_, _≤_, _<_}
+use mathlib.Core.List.{List, [], _∷_, _++_, map, List·Memᴰ, List·Memᴰ·head, List·Memᴰ·tail, List·Memᴰ·not-nil, List·Memᴰ·append-cases, List·Memᴰ·eq-of-singleton, append-nil}
+use Prim.Native.Nat.{ℕ, zero, suc, _+_, _-_, _*_, _/_, _%_, _≤_, _<_}
 use native.Mathlib.Omega.{arith}
-use lib.ListN.{length, getD, length-map}
+use native.Mathlib.Nat.{add-mul-mod-self-right, add-mul-div-right, mod-eq-of-lt, div-eq-of-lt}
 use lib.IntN.{ℤ, subℕ}
 use Rattle.lists.specs.Tables as tables
-use Rattle.lists.proofs.Cases.{less-or-not}
 use Rattle.frame.specs.declared.direction.Direction.{Direction}
 use Rattle.frame.specs.declared.shape.Shape.{Shape}
 use Rattle.frame.specs.declared.sweep.Sweep.{Sweep}
-use Rattle.frame.specs.Lines.{pixels, place}
-use Rattle.frame.specs.Scattering.{stored}
-use Rattle.frame.specs.Sweep.{sweepOf, low, shift, lines, hit, cell, cells, valuesAt, Accepted, Sane, Reach, Apart, Swept}
-use Rattle.frame.proofs.Scatters.{sized-none, flat, Distinct, distinct-next, stored-length, stored-off, stored-on, stored-apart}
+use Rattle.frame.specs.Shape.{isFrame}
+use Rattle.frame.specs.Lines.{at, pixels, place}
+use Rattle.frame.specs.Sweep.{sweepOf, low, shift, hit, cell, cells, Accepted, Apart}
 use Rattle.frame.proofs.Numbers.{Index, indexed}
-use Rattle.frame.proofs.Shapes.{accepted-some, sweep-apart}
-use Rattle.frame.proofs.Walks.{hits, cells-mem, cell-reach, places-are, pixels-none}
-use Rattle.frame.proofs.Spans.{past-lines}
+use Rattle.frame.proofs.Shapes.{framed, accepted-some, sweep-apart}
+use Rattle.frame.proofs.Walks.{hits, cells-mem, places-are, pixels-none}
+
+-- a place below w in a row of w, and its row
+pub flat : (w i j i' j' : ℕ) → i < w → i' < w → i + j * w ≡ i' + j' * w → (i ≡ i') × (j ≡ j')
+flat w i j i' j' h k e = (
+  sym (mod-eq-of-lt h) ∙ sym (add-mul-mod-self-right i j w) ∙ ap (λ (n : ℕ). n % w) e ∙ add-mul-mod-self-right i' j' w ∙ mod-eq-of-lt k,
+  sym (row i j h) ∙ ap (λ (n : ℕ). n / w) e ∙ row i' j' k,
+)
+  where
+    row : (i j : ℕ) → i < w → (i + j * w) / w ≡ j
+    row i j h = add-mul-div-right i j {z = w} (omega arith) ∙ ap (λ (n : ℕ). n + j) (div-eq-of-lt h) ∙ omega arith
+
+pub place-once : (sh : Shape) → isFrame sh ≡ true → (x y x' y' : ℕ) → x < sh .width → x' < sh .width → place sh (at x y) ≡ place sh (at x' y') → (x ≡ x') × (y ≡ y')
+place-once sh ok x y x' y' h k e = let f = framed sh ok in flat (sh .stride) x y x' y' (omega (arith, f .past)) (omega (arith, f .past)) (omega (arith, e))
 
 pub same-cell : (s : Sweep) → Apart s → (u v i j : ℕ) → i < s .majors → j < s .majors → hit s u i ≡ true → hit s v j ≡ true
     → cell s u i ≡ cell s v j → (i ≡ j) × (u ≡ v)
@@ -49,13 +59,19 @@ same-cell s far u v i j h k e f q = go far
         (omega (arith, q, ap (λ (m : ℕ). (u - shift s i) * m) (w .0), ap (λ (m : ℕ). (v - shift s j) * m) (w .0))) in
         both (t .1) (t .0)
 
-module _ (s : Sweep) (far : Apart s) where
-  pub disjoint : (u v c : ℕ) → (u ≡ v → ⊥) → List·Memᴰ c (cells s u (s .majors)) → List·Memᴰ c (cells s v (s .majors)) → ⊥
-  disjoint u v c h m n =
-      let a = cells-mem s u (s .majors) c m in
-      let b = cells-mem s v (s .majors) c n in
-      h (same-cell s far u v (a .i) (b .i) (a .below) (b .below) (a .passed) (b .passed) (sym (a .is) ∙ b .is) .1)
+-- no place twice
+abbrev pub Distinct : List ℕ → Type 0
+Distinct [] = Unit
+Distinct (c ∷ cs) = (List·Memᴰ c cs → ⊥) × Distinct cs
 
+distinct-next : (cs : List ℕ) (c : ℕ) → Distinct cs → (List·Memᴰ c cs → ⊥) → Distinct (cs ++ (c ∷ []))
+distinct-next [] c d h = (List·Memᴰ·not-nil, tt)
+distinct-next (b ∷ cs) c d h = (
+  (λ m. ⊎-elim (d .0) (λ n. h (List·Memᴰ·head (sym (List·Memᴰ·eq-of-singleton n)))) (List·Memᴰ·append-cases cs m)),
+  distinct-next cs c (d .1) (λ m. h (List·Memᴰ·tail m)),
+)
+
+module _ (s : Sweep) (far : Apart s) where
   pub distinct : (u n : ℕ) → n ≤ s .majors → Distinct (cells s u n)
   unfolding cells tables.each
   distinct u zero h = tt
@@ -78,53 +94,3 @@ line-once sh d ok k = go (indexed (low (sweepOf sh d)) k)
         subst Distinct (sym (places-are sh d (accepted-some ok) (x .u)) ∙ ap (λ (z : ℤ). map (place sh) (pixels sh d z)) (x .is))
         (distinct (sweepOf sh d) (sweep-apart ok) (x .u) (sweepOf sh d .majors) (omega arith))
     go (inr none) = rw (pixels-none sh d (accepted-some ok) k none) tt
-
--- ---- one line after the other
-
-pub record Partly (φ : List ℕ → List ℕ) (s : Sweep) (f g₀ : List ℕ) (u : ℕ) (g : List ℕ) : Type 0 where
-  pub same : length g ≡ length g₀
-  pub treated : (v : ℕ) → v < u → valuesAt g (cells s v (s .majors)) ≡ φ (valuesAt f (cells s v (s .majors)))
-  pub gaps : (i : ℕ) → ((v : ℕ) → List·Memᴰ i (cells s v (s .majors)) → ⊥) → getD g i 0 ≡ getD g₀ i 0
-
-pub partly-none : (φ : List ℕ → List ℕ) (s : Sweep) (f g₀ : List ℕ) → Partly φ s f g₀ 0 g₀
-partly-none φ s f g₀ = record { same = refl; treated = λ v h. absurd (omega arith); gaps = λ i h. refl }
-
-module _ (φ : List ℕ → List ℕ) (sized : (l : List ℕ) → length (φ l) ≡ length l) (s : Sweep) (f g₀ : List ℕ) where
-  pub partly-more : Apart s → Reach s (length g₀) → (u : ℕ) (g g′ : List ℕ) → Partly φ s f g₀ u g
-      → g′ ≡ stored (cells s u (s .majors)) (φ (valuesAt f (cells s u (s .majors)))) g → Partly φ s f g₀ (u + 1) g′
-  partly-more far fits u g g′ p e =
-      record {
-        same = ap length e ∙ stored-length (cells s u (s .majors)) (φ (valuesAt f (cells s u (s .majors)))) g ∙ p .same;
-        treated = λ v h. ap (λ (x : List ℕ). valuesAt x (cells s v (s .majors))) e ∙ ⊎-elim (λ l. old v l) (λ l. new v (omega arith)) (less-or-not v u);
-        gaps = λ i h. ap (λ (x : List ℕ). getD x i 0) e ∙ stored-off (cells s u (s .majors)) (φ (valuesAt f (cells s u (s .majors)))) g i (h u) ∙ p .gaps i h;
-      }
-    where
-      there : (i : ℕ) → List·Memᴰ i (cells s u (s .majors)) → i < length g
-      there i m =
-          let a = cells-mem s u (s .majors) i m in
-          omega (arith, a .is, p .same, cell-reach s u (a .i) (length g₀) (a .below) (a .passed) fits)
-
-      old : (v : ℕ) → v < u
-          → valuesAt (stored (cells s u (s .majors)) (φ (valuesAt f (cells s u (s .majors)))) g) (cells s v (s .majors)) ≡ φ (valuesAt f (cells s v (s .majors)))
-      old v l =
-          stored-apart (cells s u (s .majors)) (φ (valuesAt f (cells s u (s .majors)))) g (cells s v (s .majors))
-          (λ i m n. disjoint s far v u i (λ q. omega arith) m n)
-          ∙ p .treated v l
-
-      new : (v : ℕ) → u ≡ v
-          → valuesAt (stored (cells s u (s .majors)) (φ (valuesAt f (cells s u (s .majors)))) g) (cells s v (s .majors)) ≡ φ (valuesAt f (cells s v (s .majors)))
-      new v q =
-          subst
-          (λ (w : ℕ).
-          valuesAt (stored (cells s u (s .majors)) (φ (valuesAt f (cells s u (s .majors)))) g) (cells s w (s .majors)) ≡ φ (valuesAt f (cells s w (s .majors))))
-          q
-          (stored-on (cells s u (s .majors)) (φ (valuesAt f (cells s u (s .majors)))) g (distinct s far u (s .majors) (omega arith)) there
-          (sym (sized (valuesAt f (cells s u (s .majors))) ∙ length-map (cells s u (s .majors)) (λ (c : ℕ). getD f c 0))))
-
-  pub partly-all : Sane s → (u : ℕ) (g : List ℕ) → lines s ≤ u → Partly φ s f g₀ u g → Swept φ s f g₀ g
-  partly-all sane u g h p = record { same = p .same; lines = λ v. ⊎-elim (λ l. p .treated v l) (λ l. none v l) (less-or-not v u); gaps = p .gaps }
-    where
-      none : (v : ℕ) → u ≤ v → valuesAt g (cells s v (s .majors)) ≡ φ (valuesAt f (cells s v (s .majors)))
-      none v l =
-          let q = past-lines s sane v (omega arith) in
-          ap (valuesAt g) q ∙ sym (ap (λ (cs : List ℕ). φ (valuesAt f cs)) q ∙ sized-none φ sized)

@@ -176,13 +176,13 @@ module _ (sh : Shape) (d : Direction) (ok : Accepted sh d) where
           ⊎-elim
           (λ h.
           record {
-            from = spanFrom s u 1;
-            count = spanEnd s u 1 - spanFrom s u 1;
-            minor = λ i. u - shift s (spanFrom s u 1 + i);
-            fits = omega (arith, spans s (sweep-sane ok) u 1 h (omega arith) .fits, majors-are sh d);
+            from = spanFrom s u;
+            count = spanEnd s u - spanFrom s u;
+            minor = λ i. u - shift s (spanFrom s u + i);
+            fits = omega (arith, spans s (sweep-sane ok) u h .fits, majors-are sh d);
             is = ap (pixels sh d) (sym (x .is))
-                ∙ pixels-span sh d (accepted-some ok) u (spanFrom s u 1) (spanEnd s u 1 - spanFrom s u 1)
-                (spans s (sweep-sane ok) u 1 h (omega arith));
+                ∙ pixels-span sh d (accepted-some ok) u (spanFrom s u) (spanEnd s u - spanFrom s u)
+                (spans s (sweep-sane ok) u h);
           })
           (λ h. nothing (ap (pixels sh d) (sym (x .is)) ∙ pixels-past u h))
           (less-or-not u (lines s))

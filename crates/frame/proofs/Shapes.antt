@@ -1,18 +1,20 @@
 -- What an accepted frame, an accepted direction and their sweep keep to.
 --   framed, directed            the ranges, from the tests
 --   needed-small, needed-by     a frame's bytes fit, and are those that `bytes` hands back
---   accepted-some               an accepted direction moves
+--   accepted-some               an accepted direction moves; accepted-or-not: both rules accept, or one refuses
 --   sweep-sane, sweep-apart, sweep-accepted    the sweep of an accepted frame and direction
 --   sweep-reach                 its last pixel is within the bytes that the frame needs
---   top-less, low-less          its lines move aside by less than a side
+--   top-less, low-less          its lines move aside by less than a side; for-lines, for-low, for-sane: and what `sweep_of` hands back
+--   shift-is                    what `shift_at` hands back for such a sweep
+--   gapless-accepted, gapless-needed    a frame without gaps: it is accepted, and needs a byte a pixel
 -- Assumes nothing.
-use mathlib.Core.Path.{_≡_, refl, sym}
+use mathlib.Core.Path.{_≡_, refl, sym, ap}
 use mathlib.Core.Bool.{Bool, true, false, not, cond, _&&_, false≢true}
-use mathlib.Core.Logic.{inl, inr}
-use Prim.Native.Nat.{ℕ, zero, suc, _+_, _-_, _*_, _≤_, _<_, max}
+use mathlib.Core.Logic.{_⊎_, inl, inr}
+use Prim.Native.Nat.{ℕ, zero, suc, _+_, _-_, _*_, _≤_, _<_}
 use native.Mathlib.Omega.{arith}
-use native.Mathlib.Nat.{mul-le-mul}
-use borrow.Author.Tests.{leb-true, leb-false, not-true}
+use native.Mathlib.Nat.{mul-le-mul, mul-comm, add-mul}
+use borrow.Author.Tests.{leb-true, leb-false, not-true, le-leb, le-ltb}
 use lib.Dec.{leb, eqb}
 use lib.IntN.{natAbs}
 use Rattle.lists.proofs.Cases.{both-left, both-right}
@@ -23,8 +25,8 @@ use Rattle.frame.specs.declared.direction.Direction.{Direction}
 use Rattle.frame.specs.declared.shape.Shape.{Shape}
 use Rattle.frame.specs.declared.sweep.Sweep.{Sweep}
 use Rattle.frame.specs.Direction.{isDirection, shallow}
-use Rattle.frame.specs.Shape.{within, isFrame, needed}
-use Rattle.frame.specs.Sweep.{sweepOf, sweepFor, low, Accepted, Sane, Apart, Reach}
+use Rattle.frame.specs.Shape.{within, isFrame, needed, gapless}
+use Rattle.frame.specs.Sweep.{sweepOf, sweepFor, shift, shiftAt, low, lines, Accepted, Sane, Apart, Reach}
 use Rattle.frame.proofs.Rounding.{r-le}
 
 pub record Framed (sh : Shape) : Type 0 where
@@ -140,14 +142,6 @@ module _ {sh : Shape} {d : Direction} (a : Accepted sh d) where
   pub sweep-accepted : sweepFor sh d ≡ sweepOf sh d
   sweep-accepted = rw (a .frame, a .direction)
 
-pub majors-most : (sh : Shape) (d : Direction) → sweepOf sh d .majors ≤ max (sh .width) (sh .height)
-unfolding sweepOf
-majors-most sh d = go (shallow d) refl
-  where
-    go : (t : Bool) → shallow d ≡ t → sweepOf sh d .majors ≤ max (sh .width) (sh .height)
-    go true e = rw e (omega arith)
-    go false e = rw e (omega arith)
-
 pub top-less : (s : Sweep) → Sane s → s .top < longest
 top-less s h = omega (arith, r-le (s .run) (s .rise) (s .majors - 1) (h .moves) (h .slow), h)
 
@@ -158,3 +152,53 @@ low-less s h = go (s .falling) (top-less s h)
     go : (t : Bool) → s .top < longest → cond t 0 (s .top) < longest
     go true k = omega arith
     go false k = k
+
+-- ---- what `sweep_of` and `shift_at` hand back
+
+pub accepted-or-not : (sh : Shape) (d : Direction) → Accepted sh d ⊎ ((isFrame sh && isDirection d) ≡ false)
+accepted-or-not sh d = go (isFrame sh && isDirection d) refl
+  where
+    go : (t : Bool) → (isFrame sh && isDirection d) ≡ t → Accepted sh d ⊎ ((isFrame sh && isDirection d) ≡ false)
+    go true e = inl (record { frame = both-left (isFrame sh) (isDirection d) e; direction = both-right (isFrame sh) (isDirection d) e })
+    go false e = inr e
+
+module _ (sh : Shape) (d : Direction) where
+  pub for-lines : lines (sweepFor sh d) ≤ 2 * longest
+  for-lines = go (accepted-or-not sh d)
+    where
+      go : Accepted sh d ⊎ ((isFrame sh && isDirection d) ≡ false) → lines (sweepFor sh d) ≤ 2 * longest
+      go (inl ok) = rw (sweep-accepted ok) (omega (arith, sweep-sane ok .minors, top-less (sweepOf sh d) (sweep-sane ok)))
+      go (inr e) = rw e (omega arith)
+
+  pub for-low : low (sweepFor sh d) ≤ longest
+  unfolding low
+  for-low = go (accepted-or-not sh d)
+    where
+      go : Accepted sh d ⊎ ((isFrame sh && isDirection d) ≡ false) → low (sweepFor sh d) ≤ longest
+      go (inl ok) = rw (sweep-accepted ok) (omega (arith, low-less (sweepOf sh d) (sweep-sane ok)))
+      go (inr e) = rw e (omega arith)
+
+  pub for-sane : (u : ℕ) → u < lines (sweepFor sh d) → Sane (sweepFor sh d)
+  for-sane u h = go (accepted-or-not sh d)
+    where
+      go : Accepted sh d ⊎ ((isFrame sh && isDirection d) ≡ false) → Sane (sweepFor sh d)
+      go (inl ok) = rw (sweep-accepted ok) (sweep-sane ok)
+      go (inr e) = absurd (omega (arith, rw e at h))
+
+pub shift-is : (s : Sweep) → Sane s → (i : ℕ) → i ≤ longest → shiftAt s i ≡ shift s i
+shift-is s h i k = rw (le-ltb (s .run) 1 (h .moves), le-ltb steepest (s .run) (h .run), le-leb (s .rise) (s .run) (h .slow), le-leb i longest k)
+
+-- ---- without gaps
+
+pub gapless-framed : (sh : Shape) → isFrame sh ≡ true → isFrame (gapless sh) ≡ true
+gapless-framed sh e =
+    let f = framed sh e in
+    rw (le-ltb (sh .width) 1 (f .wide), le-ltb longest (sh .width) (f .width), le-ltb (sh .height) 1 (f .high), le-ltb longest (sh .height) (f .height), le-ltb (sh .width) (sh .width) (omega arith), le-ltb widest (sh .width) (omega (arith, f)))
+
+pub gapless-accepted : {sh : Shape} {d : Direction} → Accepted sh d → Accepted (gapless sh) d
+gapless-accepted {sh} ok = record { frame = gapless-framed sh (ok .frame); direction = ok .direction }
+
+pub gapless-needed : (sh : Shape) → 1 ≤ sh .height → needed (gapless sh) ≡ sh .width * sh .height
+gapless-needed sh some =
+    let up : sh .height - 1 + 1 ≡ sh .height = omega arith in
+    omega (arith, mul-comm (sh .width) (sh .height), add-mul (sh .height - 1) 1 (sh .width), ap (λ (n : ℕ). n * sh .width) up)

@@ -1,17 +1,17 @@
 -- Signed numbers at the machine's edge: what a sign and a size ask of 64 bits.
 --   back                      a number that went through its bits is itself
 --   below-zero, not-below     a number below 0, and one that is not
---   size-most, minus-fits, lowest-fits    a size that fits, and a negation that does
+--   size-most, minus-fits, lowest-fits, sum-fits    a size that fits, a negation and a sum that do
 --   steeper, not-steeper      the test of a size, as the definitions make it
 -- Assumes nothing.
-use mathlib.Core.Path.{_≡_, ap, subst}
-use mathlib.Core.Bool.{true, false, true≢false}
-use Prim.Native.Nat.{ℕ, zero, suc, _+_, _^_, _≤_, _<_, zero-le}
+use mathlib.Core.Path.{_≡_, refl, ap, subst}
+use mathlib.Core.Bool.{Bool, true, false, true≢false}
+use Prim.Native.Nat.{ℕ, zero, suc, _+_, _*_, _^_, _≤_, _<_, zero-le}
 use native.Mathlib.Omega.{arith}
 use native.Mathlib.Nat.{lt-irrefl, lt-of-lt-of-le}
 use borrow.Author.Tests.{ltb-true, ltb-false, le-ltb, le-leb, lt-leb}
 use lib.Dec.{T, leb, ltb}
-use lib.IntN.{ℤ, pos, negsuc, negℤ, natAbs, subℕ, _-ℤ_, +ℤ-idl}
+use lib.IntN.{ℤ, pos, negsuc, negℤ, natAbs, subℕ, _+ℤ_, _-ℤ_, +ℤ-idl}
 use lib.Signed.{mag, ltZ, nonNeg}
 use mir.Syntax.{w64}
 use mir.Val.{SFits, toZ, ofZ}
@@ -44,6 +44,14 @@ minus-fits z h = rw +ℤ-idl (go z h)
 
 pub lowest-fits : (n : ℕ) → n ≤ longest → SFits w64 (subℕ 0 n)
 lowest-fits n h = subst (SFits w64) (minus-is 0 n) (minus-fits (pos n) h)
+
+pub sum-fits : (z : ℤ) (u : ℕ) → natAbs z ≤ longest → u ≤ 2 * longest → SFits w64 (z +ℤ pos u)
+sum-fits (pos n) u h k = record { sfits = omega arith }
+sum-fits (negsuc n) u h k = go (ltb u (suc n)) refl
+  where
+    go : (t : Bool) → ltb u (suc n) ≡ t → SFits w64 (subℕ u (suc n))
+    go true e = rw e (record { sfits = omega arith })
+    go false e = rw e (record { sfits = omega arith })
 
 pub steeper : {n m : ℕ} → ltb steepest n ≡ true → n ≡ m → leb m steepest ≡ false
 steeper {n} {m} e q = lt-leb m steepest (omega (arith, ltb-true steepest n e))

@@ -1,36 +1,34 @@
--- At which major coordinates lines have their pixels: a stretch, whose ends are found by division.
+-- At which major coordinates a line has its pixels: a stretch, whose ends are found by division.
 --   passed-is, skipped-is     the first coordinate at which more than so many minor steps are made
 --   shift-falling, shift-rising, shift-le    by the slope's sign; a line moves aside by at most `top`
 --   from-falling, end-falling, from-rising, end-rising    its ends, by the slope's sign
---   span-ordered, spans       the stretch of the c lines from u on
---   span-holds, span-accepted every pixel of those lines is within it; what `span_of` hands back
---   span-hit, cells-span, values-span, pixels-span    a line's hits, bytes, values and pixels, by its stretch
+--   span-ordered, spans       the stretch of a line
+--   span-holds, cells-span, values-span, pixels-span    every pixel of the line is within it; the line's bytes, values and pixels, by it
 --   past-lines, line-some     a line of an index past the last has no pixel, and every line below has one
 -- Assumes nothing.
 use mathlib.Core.Path.{_≡_, refl, sym, ap, _∙_}
-use mathlib.Core.Bool.{Bool, true, false, cond, _&&_, and-false, true≢false}
+use mathlib.Core.Bool.{Bool, true, false, cond, true≢false}
 use mathlib.Core.Logic.{⊎-elim}
 use mathlib.Core.List.{List, []}
 use Prim.Native.Nat.{ℕ, _+_, _-_, _*_, _/_, _≤_, _<_, min}
 use native.Mathlib.Nat.{add-mul, mul-add, mul-zero, mul-assoc, mul-comm, mul-le-mul, mul-le-mul-right, div-lt-iff-lt-mul, le-div-iff-mul-le, div-mul-le-self, div-eq-of-lt, le-trans}
 use native.Mathlib.Omega.{arith}
-use borrow.Author.Tests.{eqb-true, eqb-false, ltb-true, ltb-false, leb-true, le-leb, le-ltb, lt-ltb}
-use lib.Dec.{leb, ltb, eqb}
+use borrow.Author.Tests.{eqb-true, eqb-false, ltb-true, ltb-false}
+use lib.Dec.{ltb, eqb}
 use lib.ListN.{getD}
 use lib.IntN.{natAbs, subℕ}
 use Rattle.lists.specs.Tables.{table, those}
-use Rattle.lists.proofs.Cases.{less-or-not, both}
+use Rattle.lists.proofs.Cases.{less-or-not}
 use Rattle.lists.proofs.Picks.{map-table, those-none, those-stretch}
 use Rattle.answer.specs.Limits.{longest, steepest}
 use Rattle.frame.specs.declared.direction.Direction.{Direction}
 use Rattle.frame.specs.declared.shape.Shape.{Shape}
 use Rattle.frame.specs.declared.sweep.Sweep.{Sweep}
 use Rattle.frame.specs.Lines.{r, pixels}
-use Rattle.frame.specs.Sweep.{sweepOf, shift, low, lines, hit, cell, cells, valuesAt, Accepted, Sane}
-use Rattle.frame.specs.Span.{passed, skipped, spanFrom, spanEnd, spanning, spanOf, touched, Spans}
-use Rattle.frame.proofs.Numbers.{bool-iff}
+use Rattle.frame.specs.Sweep.{sweepOf, shift, low, lines, hit, cell, cells, valuesAt, Sane}
+use Rattle.frame.specs.Span.{passed, skipped, spanFrom, spanEnd, Spans}
 use Rattle.frame.proofs.Rounding.{r-up, r-zero, r-step, At, reached}
-use Rattle.frame.proofs.Walks.{hits, hit-at, spot, pixels-are}
+use Rattle.frame.proofs.Walks.{hit-at, hit-below, hit-past, spot, pixels-are}
 
 -- ---- by division
 
@@ -114,7 +112,7 @@ skipped-is a b n x y some = go (ltb y x) refl
           over = λ i k h. omega (arith, p .over i k h);
         }
 
--- ---- the stretch of some neighbouring lines
+-- ---- the stretch of a line
 
 pub shift-falling : (s : Sweep) → s .falling ≡ true → (i : ℕ) → shift s i ≡ r (s .run) (s .rise) i
 unfolding shift
@@ -132,57 +130,47 @@ shift-le s h i k = go (s .falling)
     go true = omega (arith, h .top, r-up (s .run) (s .rise) i (s .majors - 1) (h .moves) (omega arith))
     go false = omega arith
 
-module _ (s : Sweep) (u c i : ℕ) where
-  touched-at : shift s i < u + c → u < shift s i + s .minors → touched s u c i ≡ true
-  touched-at h k = both (ltb (shift s i) (u + c)) (ltb u (shift s i + s .minors)) (lt-ltb (shift s i) (u + c) h) (lt-ltb u (shift s i + s .minors) k)
-
-  above : u + c ≤ shift s i → touched s u c i ≡ false
-  above h = rw (le-ltb (shift s i) (u + c) h)
-
-  below : shift s i + s .minors ≤ u → touched s u c i ≡ false
-  below h = rw (le-ltb u (shift s i + s .minors) h, and-false)
-
-record Ends (s : Sweep) (u c from end : ℕ) : Type 0 where
+record Ends (s : Sweep) (u from end : ℕ) : Type 0 where
   ordered : from ≤ end
   fits : end ≤ s .majors
-  inside : (i : ℕ) → from ≤ i → i < end → touched s u c i ≡ true
-  before : (i : ℕ) → i < from → touched s u c i ≡ false
-  behind : (i : ℕ) → end ≤ i → i < s .majors → touched s u c i ≡ false
+  inside : (i : ℕ) → from ≤ i → i < end → hit s u i ≡ true
+  before : (i : ℕ) → i < from → hit s u i ≡ false
+  behind : (i : ℕ) → end ≤ i → i < s .majors → hit s u i ≡ false
 
-module _ (s : Sweep) (u c : ℕ) (f : s .falling ≡ true) where
-  pub from-falling : spanFrom s u c ≡ skipped (s .run) (s .rise) (s .majors) (s .minors) u
+module _ (s : Sweep) (u : ℕ) (f : s .falling ≡ true) where
+  pub from-falling : spanFrom s u ≡ skipped (s .run) (s .rise) (s .majors) (s .minors) u
   unfolding spanFrom
   from-falling = rw f
 
-  pub end-falling : spanEnd s u c ≡ passed (s .run) (s .rise) (s .majors) (u + c - 1)
+  pub end-falling : spanEnd s u ≡ passed (s .run) (s .rise) (s .majors) u
   unfolding spanEnd
   end-falling = rw f
 
-module _ (s : Sweep) (u c : ℕ) (f : s .falling ≡ false) where
-  pub from-rising : spanFrom s u c ≡ skipped (s .run) (s .rise) (s .majors) (u + c) (s .top)
+module _ (s : Sweep) (u : ℕ) (f : s .falling ≡ false) where
+  pub from-rising : spanFrom s u ≡ skipped (s .run) (s .rise) (s .majors) (u + 1) (s .top)
   unfolding spanFrom
   from-rising = rw f
 
-  pub end-rising : spanEnd s u c ≡ passed (s .run) (s .rise) (s .majors) (lines s - u - 1)
+  pub end-rising : spanEnd s u ≡ passed (s .run) (s .rise) (s .majors) (lines s - u - 1)
   unfolding spanEnd
   end-rising = rw f
 
-module _ (s : Sweep) (sane : Sane s) (u c : ℕ) (here : u < lines s) (some : 1 ≤ c) where
-  falls : s .falling ≡ true → {from end : ℕ} → Passes (s .run) (s .rise) (s .majors) (s .minors) u from → Passes (s .run) (s .rise) (s .majors) 0 (u + c - 1) end
-      → Ends s u c from end
+module _ (s : Sweep) (sane : Sane s) (u : ℕ) (here : u < lines s) where
+  falls : s .falling ≡ true → {from end : ℕ} → Passes (s .run) (s .rise) (s .majors) (s .minors) u from → Passes (s .run) (s .rise) (s .majors) 0 u end
+      → Ends s u from end
   falls f {from} {end} p q =
       let at = shift-falling s f in
       record {
         ordered = ⊎-elim (λ l. absurd (omega (arith, p .under end l, q .over end (omega arith) (omega (arith, p .most))))) (λ l. l) (less-or-not end from);
         fits = q .most;
-        inside = λ i l h. touched-at s u c i (omega (arith, at i, q .under i h)) (omega (arith, at i, p .over i l (omega (arith, q .most))));
-        before = λ i h. below s u c i (omega (arith, at i, p .under i h));
-        behind = λ i l h. above s u c i (omega (arith, at i, q .over i l h));
+        inside = λ i l h. hit-at s u i (omega (arith, at i, q .under i h)) (omega (arith, at i, p .over i l (omega (arith, q .most))));
+        before = λ i h. hit-past s u i (omega (arith, at i, p .under i h));
+        behind = λ i l h. hit-below s u i (omega (arith, at i, q .over i l h));
       }
 
-  rises : s .falling ≡ false → {from end : ℕ} → Passes (s .run) (s .rise) (s .majors) (u + c) (s .top) from
+  rises : s .falling ≡ false → {from end : ℕ} → Passes (s .run) (s .rise) (s .majors) (u + 1) (s .top) from
       → Passes (s .run) (s .rise) (s .majors) 0 (lines s - u - 1) end
-      → Ends s u c from end
+      → Ends s u from end
   rises f {from} {end} p q =
       let at = shift-rising s f in
       let high : (i : ℕ) → i < s .majors → r (s .run) (s .rise) i ≤ s .top =
@@ -192,29 +180,29 @@ module _ (s : Sweep) (sane : Sane s) (u c : ℕ) (here : u < lines s) (some : 1 
         fits = q .most;
         inside = λ i l h.
             let k : i < s .majors = omega (arith, q .most) in
-            touched-at s u c i (omega (arith, at i, p .over i l k)) (omega (arith, at i, high i k, q .under i h));
-        before = λ i h. above s u c i (omega (arith, at i, p .under i h));
-        behind = λ i l h. below s u c i (omega (arith, at i, high i h, q .over i l h));
+            hit-at s u i (omega (arith, at i, p .over i l k)) (omega (arith, at i, high i k, q .under i h));
+        before = λ i h. hit-below s u i (omega (arith, at i, p .under i h));
+        behind = λ i l h. hit-past s u i (omega (arith, at i, high i h, q .over i l h));
       }
 
-  ends : Ends s u c (spanFrom s u c) (spanEnd s u c)
+  ends : Ends s u (spanFrom s u) (spanEnd s u)
   ends = go (s .falling) refl
     where
-      go : (t : Bool) → s .falling ≡ t → Ends s u c (spanFrom s u c) (spanEnd s u c)
+      go : (t : Bool) → s .falling ≡ t → Ends s u (spanFrom s u) (spanEnd s u)
       go true f =
-          rw (from-falling s u c f, end-falling s u c f)
-          (falls f (skipped-is (s .run) (s .rise) (s .majors) (s .minors) u (sane .moves)) (passed-is (s .run) (s .rise) (s .majors) (u + c - 1) (sane .moves)))
+          rw (from-falling s u f, end-falling s u f)
+          (falls f (skipped-is (s .run) (s .rise) (s .majors) (s .minors) u (sane .moves)) (passed-is (s .run) (s .rise) (s .majors) u (sane .moves)))
       go false f =
-          rw (from-rising s u c f, end-rising s u c f)
-          (rises f (skipped-is (s .run) (s .rise) (s .majors) (u + c) (s .top) (sane .moves)) (passed-is (s .run) (s .rise) (s .majors) (lines s - u - 1) (sane .moves)))
+          rw (from-rising s u f, end-rising s u f)
+          (rises f (skipped-is (s .run) (s .rise) (s .majors) (u + 1) (s .top) (sane .moves)) (passed-is (s .run) (s .rise) (s .majors) (lines s - u - 1) (sane .moves)))
 
-  pub span-ordered : spanFrom s u c ≤ spanEnd s u c
+  pub span-ordered : spanFrom s u ≤ spanEnd s u
   span-ordered = ends .ordered
 
-  pub spans : Spans s u c (spanFrom s u c) (spanEnd s u c - spanFrom s u c)
+  pub spans : Spans s u (spanFrom s u) (spanEnd s u - spanFrom s u)
   spans =
       let e = ends in
-      let k : spanFrom s u c + (spanEnd s u c - spanFrom s u c) ≡ spanEnd s u c = omega (arith, e .ordered) in
+      let k : spanFrom s u + (spanEnd s u - spanFrom s u) ≡ spanEnd s u = omega (arith, e .ordered) in
       record {
         fits = omega (arith, e .fits);
         inside = λ i l h. e .inside i l (omega arith);
@@ -222,42 +210,16 @@ module _ (s : Sweep) (sane : Sane s) (u c : ℕ) (here : u < lines s) (some : 1 
         behind = λ i l h. e .behind i (omega arith) h;
       }
 
--- every pixel of the c lines from u on is within their stretch
-pub span-holds : {s : Sweep} {u c from count : ℕ} → Spans s u c from count → (j i : ℕ) → j < c → i < s .majors → hit s (u + j) i ≡ true
-    → (from ≤ i) × (i < from + count)
-span-holds {s} {u} {c} {from} {count} p j i h k e =
-    let on = hits s (u + j) i e in
-    let t = touched-at s u c i (omega arith) (omega arith) in (
-      ⊎-elim (λ q. absurd (true≢false (sym t ∙ p .before i q))) (λ q. q) (less-or-not i from),
-      ⊎-elim (λ q. q) (λ q. absurd (true≢false (sym t ∙ p .behind i q k))) (less-or-not i (from + count)),
-    )
-
--- what `span_of` hands back for an accepted frame and direction
-pub span-accepted : (sh : Shape) (d : Direction) (u c : ℕ) → Accepted sh d → u < lines (sweepOf sh d) → 1 ≤ c → c ≤ longest
-    → spanOf sh d u c ≡ spanning (sweepOf sh d) u c
-span-accepted sh d u c ok h some most = rw (ok .frame, ok .direction, lt-ltb u (lines (sweepOf sh d)) h, le-ltb c 1 some, le-ltb longest c most)
-
--- ---- one line
-
-touched-one : (s : Sweep) (u i : ℕ) → touched s u 1 i ≡ hit s u i
-unfolding hit
-touched-one s u i = ap (λ (t : Bool). t && ltb u (shift s i + s .minors)) (bool-iff (ltb (shift s i) (u + 1)) (leb (shift s i) u) (λ e. le-leb' e) (λ e. lt-ltb' e))
-  where
-    le-leb' : ltb (shift s i) (u + 1) ≡ true → leb (shift s i) u ≡ true
-    le-leb' e = le-leb (shift s i) u (omega (arith, ltb-true (shift s i) (u + 1) e))
-
-    lt-ltb' : leb (shift s i) u ≡ true → ltb (shift s i) (u + 1) ≡ true
-    lt-ltb' e = lt-ltb (shift s i) (u + 1) (omega (arith, leb-true (shift s i) u e))
-
-module _ {s : Sweep} {u from count : ℕ} (p : Spans s u 1 from count) where
-  pub span-hit : (i : ℕ) → from ≤ i → i < from + count → hit s u i ≡ true
-  span-hit i l h = sym (touched-one s u i) ∙ p .inside i l h
+module _ {s : Sweep} {u from count : ℕ} (p : Spans s u from count) where
+  -- every pixel of line u is within its stretch
+  pub span-holds : (i : ℕ) → i < s .majors → hit s u i ≡ true → (from ≤ i) × (i < from + count)
+  span-holds i k e = (
+    ⊎-elim (λ q. absurd (true≢false (sym e ∙ p .before i q))) (λ q. q) (less-or-not i from),
+    ⊎-elim (λ q. q) (λ q. absurd (true≢false (sym e ∙ p .behind i q k))) (less-or-not i (from + count)),
+  )
 
   those-span : {A : Type 0} (g : ℕ → A) → those (hit s u) g (s .majors) ≡ table (λ (i : ℕ). g (from + i)) count
-  those-span g =
-      those-stretch (hit s u) g (s .majors) from count (p .fits) span-hit
-      (λ i h. sym (touched-one s u i) ∙ p .before i h)
-      (λ i l h. sym (touched-one s u i) ∙ p .behind i l h)
+  those-span g = those-stretch (hit s u) g (s .majors) from count (p .fits) (p .inside) (p .before) (p .behind)
 
   pub cells-span : cells s u (s .majors) ≡ table (λ (i : ℕ). cell s u (from + i)) count
   unfolding cells
@@ -267,18 +229,15 @@ module _ {s : Sweep} {u from count : ℕ} (p : Spans s u 1 from count) where
   values-span f = ap (valuesAt f) cells-span ∙ map-table (λ (c : ℕ). getD f c 0) (λ (i : ℕ). cell s u (from + i)) count
 
 -- a line's pixels are an interval of the major coordinate
-pub pixels-span : (sh : Shape) (d : Direction) → 1 ≤ natAbs (d .p) + natAbs (d .q) → (u from count : ℕ) → Spans (sweepOf sh d) u 1 from count
+pub pixels-span : (sh : Shape) (d : Direction) → 1 ≤ natAbs (d .p) + natAbs (d .q) → (u from count : ℕ) → Spans (sweepOf sh d) u from count
     → pixels sh d (subℕ u (low (sweepOf sh d))) ≡ table (λ (i : ℕ). spot d (from + i) (u - shift (sweepOf sh d) (from + i))) count
 pixels-span sh d some u from count p = pixels-are sh d some u ∙ those-span p (λ (i : ℕ). spot d i (u - shift (sweepOf sh d) i))
 
 -- ---- the lines there are
 
-pub past-hit : (s : Sweep) → Sane s → (u i : ℕ) → lines s ≤ u → i < s .majors → touched s u 1 i ≡ false
-past-hit s h u i k l = below s u 1 i (omega (arith, shift-le s h i l))
-
 pub past-lines : (s : Sweep) → Sane s → (u : ℕ) → lines s ≤ u → cells s u (s .majors) ≡ []
 unfolding cells
-past-lines s h u k = those-none (hit s u) (cell s u) (s .majors) (λ i l. sym (touched-one s u i) ∙ past-hit s h u i k l)
+past-lines s h u k = those-none (hit s u) (cell s u) (s .majors) (λ i l. hit-past s u i (omega (arith, shift-le s h i l)))
 
 pub record Some (s : Sweep) (u : ℕ) : Type 0 where
   pub i : ℕ

@@ -4,7 +4,7 @@
 --   cell-place        the byte of a line at a major coordinate is a pixel's
 --   pixels-are        the pixels of a line; places-are: their bytes; values-are: what a frame has there
 --   pixels-none       a number below every index has no pixels
---   cells-mem, cells-in    what is among a line's bytes
+--   cells-mem         what is among a line's bytes
 --   cell-reach        each byte of a line lies before the last pixel's end
 -- Assumes nothing.
 use mathlib.Core.Path.{_≡_, refl, sym, ap, _∙_}
@@ -20,7 +20,7 @@ use lib.IntN.{ℤ, pos, negsuc, natAbs, subℕ, _-ℤ_, _*ℤ_}
 use Rattle.lists.specs.Tables.{each, those}
 use Rattle.lists.proofs.Cases.{both-left, both-right}
 use Rattle.lists.proofs.Tables.{each-same, each-none}
-use Rattle.lists.proofs.Picks.{map-those, Picked, those-mem, those-in, those-same, those-none, those-one}
+use Rattle.lists.proofs.Picks.{map-those, Picked, those-mem, those-same, those-none, those-one}
 use Rattle.frame.specs.declared.direction.Direction.{Direction}
 use Rattle.frame.specs.declared.shape.Shape.{Shape}
 use Rattle.frame.specs.declared.sweep.Sweep.{Sweep}
@@ -62,10 +62,6 @@ value-off s f u i e = rw e
 pub cells-mem : (s : Sweep) (u n c : ℕ) → List·Memᴰ c (cells s u n) → Picked (hit s u) (cell s u) n c
 unfolding cells
 cells-mem s u n c m = those-mem (hit s u) (cell s u) n c m
-
-pub cells-in : (s : Sweep) (u n i : ℕ) → i < n → hit s u i ≡ true → List·Memᴰ (cell s u i) (cells s u n)
-unfolding cells
-cells-in s u n i h e = those-in (hit s u) (cell s u) n i h e
 
 pub cell-reach : (s : Sweep) (u i n : ℕ) → i < s .majors → hit s u i ≡ true → Reach s n → cell s u i < n
 unfolding cell

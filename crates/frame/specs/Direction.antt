@@ -3,6 +3,7 @@
 --   inRange d         each of its numbers is −255 to 255
 --   isDirection d     it is in range, and not both numbers are 0
 --   shallow d         it is shallow; else it is steep
+--   goesDown d        its lines go down the rows, one pixel a row: it is steep or a diagonal
 --   opposite d        p and q have opposite signs
 --   sign d            its sign s
 --   turnedOf d        d turned by a quarter
@@ -34,6 +35,9 @@ isDirection d = inRange d && not (eqb (natAbs (d .p)) 0 && eqb (natAbs (d .q)) 0
 -- 'It is shallow when |q| ≤ |p|, else steep.'
 abbrev pub shallow : Direction → Bool
 shallow d = leb (natAbs (d .q)) (natAbs (d .p))
+
+abbrev pub goesDown : Direction → Bool
+goesDown d = leb (natAbs (d .p)) (natAbs (d .q))
 
 -- 'Its sign s is −1 when p and q have opposite signs, else +1.'
 abbrev pub opposite : Direction → Bool

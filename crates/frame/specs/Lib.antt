@@ -2,15 +2,12 @@
 --   Direction                 directions, and the sixteen that have a number
 --   Shape                     the shape of a frame
 --   Lines                     the lines of a frame in a direction, and what a line reads
---   ByLines                   a frame treated line by line
---   Gathering, Scattering, Rows    the calls: their rules, and what they leave
---   Sweep, Span               the lines in unsigned numbers: what private contracts and the laws need
+--   ByLines, Painted          a frame treated line by line, and one painted pixel by pixel
+--   Sweep, Span               the lines in unsigned numbers: for the code, and for the crates whose calls walk along lines
 pub mod Direction
 pub mod Shape
 pub mod Lines
 pub mod ByLines
-pub mod Gathering
-pub mod Scattering
-pub mod Rows
+pub mod Painted
 pub mod Sweep
 pub mod Span

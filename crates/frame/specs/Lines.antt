@@ -13,13 +13,16 @@
 --   light f sh         the total of a frame's pixels
 --   climb sh d         how far a line moves aside from one end of the frame to the other
 --   firstLine, lineCount    the lowest line number of a frame, and how many lines it has; linesOf has both
--- Laws: frame/proofs/Pixels, Opposites, Light.
+--   lineNumber sh d u  the number of line u, counted from the first
+--   samePixel c b      c and b are the same pixel
+--   indexIn c cs       where the pixel c stands in a list of pixels, counted from 0
+-- Laws: frame/proofs/Pixels, Spots, Opposites, Light.
 use mathlib.Core.Bool.{Bool, true, false, cond, _&&_}
 use mathlib.Core.List.{List, [], _∷_, map}
-use Prim.Native.Nat.{ℕ, _+_, _-_, _*_, _/_}
-use lib.Dec.{eqb}
+use Prim.Native.Nat.{ℕ, suc, _+_, _-_, _*_, _/_}
+use lib.Dec.{eqb, ltb}
 use lib.ListN.{getD}
-use lib.IntN.{ℤ, pos, negsuc, negℤ, natAbs, _-ℤ_, _*ℤ_}
+use lib.IntN.{ℤ, pos, negsuc, negℤ, natAbs, _+ℤ_, _-ℤ_, _*ℤ_}
 use Rattle.lists.specs.Tables.{each, keep, table}
 use Rattle.lists.specs.Extremes.{total}
 use Rattle.frame.specs.declared.direction.Direction.{Direction}
@@ -105,3 +108,14 @@ linesOf sh d =
     cond (isFrame sh && isDirection d)
     (record { first = firstLine sh d; count = lineCount sh d })
     (record { first = pos 0; count = 0 })
+
+-- 0 where there is no such line
+abbrev pub lineNumber : Shape → Direction → ℕ → ℤ
+lineNumber sh d u = cond (ltb u (linesOf sh d .count)) (firstLine sh d +ℤ pos u) (pos 0)
+
+abbrev pub samePixel : Pixel → Pixel → Bool
+samePixel c b = eqb (c .x) (b .x) && eqb (c .y) (b .y)
+
+unfoldable pub indexIn : Pixel → List Pixel → ℕ
+indexIn c [] = 0
+indexIn c (b ∷ cs) = cond (samePixel c b) 0 (suc (indexIn c cs))

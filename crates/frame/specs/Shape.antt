@@ -3,9 +3,11 @@
 --   within lo hi n      n is lo to hi
 --   isFrame sh          the three numbers are in their ranges
 --   needed sh           the bytes that a frame of this shape needs
+--   scratchFor sh       the bytes of scratch that calls on its lines need
+--   gapless sh          the same pixels without gaps
 -- Laws: frame/proofs/Shapes.
 use mathlib.Core.Bool.{Bool, not, _&&_}
-use Prim.Native.Nat.{ℕ, _+_, _-_, _*_}
+use Prim.Native.Nat.{ℕ, _+_, _-_, _*_, max}
 use Rattle.answer.specs.Limits.{longest, widest}
 use Rattle.answer.specs.Rules.{outside}
 use Rattle.frame.specs.declared.shape.Shape.{Shape}
@@ -23,3 +25,10 @@ isFrame sh = within 1 longest (sh .width) && within 1 longest (sh .height) && wi
 -- 'The slice needs (H−1)·stride + W bytes and may be longer.'
 abbrev pub needed : Shape → ℕ
 needed sh = (sh .height - 1) * sh .stride + sh .width
+
+-- 'scratch shorter than 8·max(W, H) bytes'
+abbrev pub scratchFor : Shape → ℕ
+scratchFor sh = 8 * max (sh .width) (sh .height)
+
+abbrev pub gapless : Shape → Shape
+gapless sh = shape (sh .width) (sh .height) (sh .width)

@@ -3,6 +3,7 @@
 --   sweepOf sh d       the sweep of a frame in a direction (sweeping: by its numbers)
 --   sweepFor sh d      the same; noSweep where rule 1 or 2 refuses them
 --   shift s i          the index of the line of the pixel with major coordinate i and minor coordinate 0
+--   shiftAt s i        the same; 0 where the slope is none that a direction has, or i is past every frame
 --   low s              how far below 0 the lowest line number is
 --   lines s            how many lines there are
 --   hit s u i          line u has a pixel at major coordinate i
@@ -14,15 +15,14 @@
 --   Sane s             what a sweep of an accepted frame and direction keeps to
 --   Reach s n          its last pixel's byte is below n
 --   Apart s            no two of its pixels share a byte
---   Swept φ s f g g′   every line of g′ is φ of that line of f, and every other byte is g's
--- That these are document 01's lines is shown in frame/proofs/Walks; laws: Walks, Partition, ByLines.
+-- That these are document 01's lines is shown in frame/proofs/Walks; laws: Walks, Spots, Partition.
 use mathlib.Core.Path.{_≡_}
 use mathlib.Core.Bool.{Bool, true, false, cond, _&&_}
 use mathlib.Core.Logic.{_⊎_}
-use mathlib.Core.List.{List, map, List·Memᴰ}
+use mathlib.Core.List.{List, map}
 use Prim.Native.Nat.{ℕ, _+_, _-_, _*_, _≤_, _<_}
 use lib.Dec.{leb, ltb}
-use lib.ListN.{length, getD}
+use lib.ListN.{getD}
 use lib.IntN.{natAbs}
 use Rattle.lists.specs.Tables.{those}
 use Rattle.answer.specs.Limits.{longest, widest, steepest}
@@ -30,7 +30,7 @@ use Rattle.frame.specs.declared.direction.Direction.{Direction}
 use Rattle.frame.specs.declared.shape.Shape.{Shape}
 use Rattle.frame.specs.declared.sweep.Sweep.{Sweep}
 use Rattle.frame.specs.Direction.{shallow, opposite, isDirection}
-use Rattle.frame.specs.Shape.{isFrame}
+use Rattle.frame.specs.Shape.{isFrame, within}
 use Rattle.frame.specs.Lines.{r}
 
 abbrev pub sweeping : ℕ → ℕ → ℕ → ℕ → ℕ → ℕ → Bool → Sweep
@@ -52,6 +52,9 @@ sweepFor sh d = cond (isFrame sh && isDirection d) (sweepOf sh d) noSweep
 
 unfoldable pub shift : Sweep → ℕ → ℕ
 shift s i = cond (s .falling) (r (s .run) (s .rise) i) (s .top - r (s .run) (s .rise) i)
+
+abbrev pub shiftAt : Sweep → ℕ → ℕ
+shiftAt s i = cond (within 1 steepest (s .run) && leb (s .rise) (s .run) && leb i longest) (shift s i) 0
 
 unfoldable pub low : Sweep → ℕ
 low s = cond (s .falling) 0 (s .top)
@@ -97,8 +100,3 @@ Reach s n = (s .majors - 1) * s .major + (s .minors - 1) * s .minor < n
 -- the smaller of the two steps is 1, and the larger passes a whole row
 abbrev pub Apart : Sweep → Type 0
 Apart s = ((s .major ≡ 1) × (s .majors ≤ s .minor)) ⊎ ((s .minor ≡ 1) × (s .minors ≤ s .major))
-
-pub record Swept (φ : List ℕ → List ℕ) (s : Sweep) (f g g′ : List ℕ) : Type 0 where
-  pub same : length g′ ≡ length g
-  pub lines : (u : ℕ) → valuesAt g′ (cells s u (s .majors)) ≡ φ (valuesAt f (cells s u (s .majors)))
-  pub gaps : (i : ℕ) → ((u : ℕ) → List·Memᴰ i (cells s u (s .majors)) → ⊥) → getD g′ i 0 ≡ getD g i 0

@@ -2,7 +2,7 @@
 use crate::signed::is_steeper;
 use crate::signed::size;
 ghost use mathlib.Core.Path.{_≡_};
-ghost use Rattle.frame.specs.Direction.{isDirection, shallow, turnedOf, numberedOf};
+ghost use Rattle.frame.specs.Direction.{isDirection, shallow, goesDown, turnedOf, numberedOf};
 
 // A direction (p, q): p columns to the right for q rows down.
 pub struct Direction {
@@ -68,6 +68,15 @@ impl Direction {
         let p = self.p;
         let q = self.q;
         size(q) <= size(p)
+    }
+
+    // Whether lines of this direction go down the rows, one pixel a row: the steep ones and the diagonals.
+    pub fn goes_down(self) -> bool
+        ensures { λ r. ⌜ r ≡ goesDown self ⌝ }
+    {
+        let p = self.p;
+        let q = self.q;
+        size(p) <= size(q)
     }
 
     // Whether the pair is in its range, and not (0, 0).

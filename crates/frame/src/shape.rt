@@ -4,7 +4,7 @@ use answer::WIDEST;
 use answer::is_outside;
 ghost use mathlib.Core.Path.{_≡_};
 ghost use mathlib.Core.Bool.{cond};
-ghost use Rattle.frame.specs.Shape.{isFrame, needed};
+ghost use Rattle.frame.specs.Shape.{isFrame, needed, scratchFor, gapless};
 
 // A frame's width and height in pixels, and how many bytes its rows are apart.
 pub struct Shape {
@@ -36,5 +36,32 @@ impl Shape {
             return 0;
         }
         (self.height - 1) * self.stride + self.width
+    }
+
+    // The bytes of scratch that the calls on a frame of this shape need for its lines; 0 where rule 1 refuses it.
+    pub fn scratch(self) -> usize
+        ensures { λ n. ⌜ n ≡ cond (isFrame self) (scratchFor self) 0 ⌝ }
+    {
+        if !self.is_frame() {
+            return 0;
+        }
+        let width = self.width;
+        let height = self.height;
+        if width < height {
+            return 8 * height;
+        }
+        8 * width
+    }
+
+    // The same pixels without gaps: each row follows on the one above it.
+    pub fn gapless(self) -> Shape
+        ensures { λ r. ⌜ r ≡ gapless self ⌝ }
+    {
+        let width = self.width;
+        Shape {
+            width,
+            height: self.height,
+            stride: width,
+        }
     }
 }

@@ -1,9 +1,9 @@
 // Signed numbers, and their way to unsigned ones: past these functions no number has a sign.
 use answer::STEEPEST;
 ghost use mathlib.Core.Path.{_≡_};
-ghost use Prim.Native.Nat.{_≤_};
+ghost use Prim.Native.Nat.{_*_, _≤_};
 ghost use lib.Dec.{ltb};
-ghost use lib.IntN.{natAbs, subℕ};
+ghost use lib.IntN.{natAbs, pos, subℕ, _+ℤ_};
 ghost use Rattle.answer.specs.Limits.{longest, steepest};
 ghost use Rattle.frame.specs.Direction.{opposite, dir};
 ghost use Rattle.frame.specs.Span.{Indexed};
@@ -68,4 +68,12 @@ pub(crate) fn lowest(low: usize) -> i64
     ensures { λ z. ⌜ z ≡ subℕ 0 low ⌝ }
 {
     0 - low as i64
+}
+
+// The number that is u above `first`.
+pub(crate) fn onward(first: i64, u: usize) -> i64
+    requires { ⌜ (natAbs first ≤ longest) × (u ≤ 2 * longest) ⌝ }
+    ensures { λ k. ⌜ k ≡ first +ℤ pos u ⌝ }
+{
+    first + u as i64
 }

@@ -3,12 +3,14 @@ use crate::direction::Direction;
 use crate::shape::Shape;
 use crate::signed::opposed;
 use crate::signed::size;
+use answer::LONGEST;
+use answer::STEEPEST;
+use answer::is_outside;
 ghost use mathlib.Core.Path.{_≡_};
-ghost use mathlib.Core.Bool.{true};
-ghost use Prim.Native.Nat.{_≤_, _<_};
+ghost use Prim.Native.Nat.{_≤_};
 ghost use Rattle.answer.specs.Limits.{longest, steepest};
 ghost use Rattle.frame.specs.Lines.{r};
-ghost use Rattle.frame.specs.Sweep.{sweepOf, sweepFor, shift, low, hit, cell, Accepted, Sane};
+ghost use Rattle.frame.specs.Sweep.{sweepOf, sweepFor, shiftAt, low, Accepted};
 
 // How many major and minor coordinates there are, how far apart their pixels are in the frame's bytes, the slope, and how far a line moves aside
 // from its first major coordinate to the last.
@@ -102,24 +104,30 @@ pub(crate) fn low_of(s: Sweep) -> usize
     if falling { 0 } else { s.top }
 }
 
-// The index of the line of the pixel (i, 0).
-fn shifted(s: Sweep, i: usize) -> usize
-    requires { ⌜ Sane s × (i < s .majors) ⌝ }
-    ensures { λ t. ⌜ t ≡ shift s i ⌝ }
+// The index of the line of the pixel with major coordinate i and minor coordinate 0: how far aside the lines stand there. 0 where the slope is none that a
+// direction has, or i is past every frame.
+pub fn shift_at(s: Sweep, i: usize) -> usize
+    ensures { λ t. ⌜ t ≡ shiftAt s i ⌝ }
 {
     let run = s.run;
     let rise = s.rise;
     let top = s.top;
     let falling = s.falling;
+    if is_outside(run, 1, STEEPEST as usize) {
+        return 0;
+    }
+    if run < rise {
+        return 0;
+    }
+    if LONGEST < i {
+        return 0;
+    }
     let n = rounded(run, rise, i);
-    if falling { n } else { top - n }
-}
-
-// The byte of line u's pixel at major coordinate i.
-pub(crate) fn cell_of(s: Sweep, u: usize, i: usize) -> usize
-    requires { ⌜ Sane s × (i < s .majors) × (hit s u i ≡ true) ⌝ }
-    ensures { λ n. ⌜ n ≡ cell s u i ⌝ }
-{
-    let t = shifted(s, i);
-    i * s.major + (u - t) * s.minor
+    if falling {
+        return n;
+    }
+    if top < n {
+        return 0;
+    }
+    top - n
 }

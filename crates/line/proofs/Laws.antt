@@ -2,28 +2,22 @@
 --   opened-dilated                  the opening is the dilation of the erosion (equation (3) of document 000)
 --   opened-below                    no pixel of an opening is brighter than its source
 --   opened-padded (Padding)         zeros before and behind a line do not change its opening
---   erodes-once, dilates-once, opens-once, front-once    one input, one outcome, for each call and for the engine
+--   erodes-once, dilates-once, opens-once    one input, one outcome, for each call
 -- Assumes nothing.
 use mathlib.Core.Path.{_≡_, sym, ap, _∙_}
 use mathlib.Core.List.{List}
-use mathlib.Core.Logic.{⊎-elim}
-use Prim.Native.Nat.{ℕ, zero, suc, _+_, _*_, _/_, _%_, _≤_, _<_}
-use native.Mathlib.Nat.{div-add-mod, mod-lt, mul-comm, zero-mul, div-lt-iff-lt-mul}
+use Prim.Native.Nat.{ℕ, _≤_, _<_}
 use native.Mathlib.Omega.{arith}
 use lib.ListN.{length, getD, List·getD-eq-default}
-use lib.Seq.{ext-getD}
 use Rattle.lists.specs.Stores.{front}
-use Rattle.lists.proofs.Cases.{less-or-not}
 use Rattle.answer.specs.declared.Answer.{Answer}
 use Rattle.answer.specs.Rules.{after}
 use Rattle.line.specs.Windows.{eroded, erodedCount, dilated, opened}
 use Rattle.line.specs.Erosion.{ErodesLine}
 use Rattle.line.specs.Dilation.{DilatesLine}
 use Rattle.line.specs.Opening.{OpensLine}
-use Rattle.line.specs.Lanes.{lane, OpensFront}
 use Rattle.line.proofs.Windows.{darkest-le, opened-at-le, eroded-length, eroded-at, dilated-length, dilated-at, opened-at}
 use Rattle.line.proofs.Passes.{opened-by, opened-at-eroded}
-use Rattle.line.proofs.Strides.{lane-at}
 
 pub opened-dilated : (f : List ℕ) (L : ℕ) → 1 ≤ L → L ≤ length f → opened f L ≡ dilated (eroded f L) L
 opened-dilated f L some fit =
@@ -55,33 +49,3 @@ pub opens-once : {s : List ℕ} {L : ℕ} {d d₁ d₂ c c₁ c₂ : List ℕ} {
 opens-once {s} {L} {d} {d₁} {d₂} {c} {c₁} {c₂} {a₁} {a₂} p q =
     let e : a₁ ≡ a₂ = p .answers ∙ sym (q .answers) in
     (e, p .written ∙ ap (λ (a : Answer). after a (front (opened s L) d) d) e ∙ sym (q .written))
-
--- of the engine: a place of the lines is pixel k / c of line k % c
-same-places : (c n : ℕ) (a b : List ℕ) → ((j : ℕ) → j < c → lane c n j a ≡ lane c n j b) → (k : ℕ) → k < c * n → getD a k 0 ≡ getD b k 0
-same-places c n a b h k l =
-    let some : 0 < c = pos-of-mul c n k l in
-    let e : c * (k / c) + k % c ≡ k = div-add-mod k c in
-    let t : k / c < n = div-lt-iff-lt-mul some .1 (omega (arith, mul-comm c n)) in
-    let at : getD (lane c n (k % c) a) (k / c) 0 ≡ getD (lane c n (k % c) b) (k / c) 0 = ap (λ (l : List ℕ). getD l (k / c) 0) (h (k % c) (mod-lt k some)) in
-    let here : getD a (c * (k / c) + k % c) 0 ≡ getD b (c * (k / c) + k % c) 0 = sym (lane-at c n (k % c) a (k / c) t) ∙ at ∙ lane-at c n (k % c) b (k / c) t in
-    rw e at here
-  where
-    pos-of-mul : (c n k : ℕ) → k < c * n → 0 < c
-    pos-of-mul zero n k h = absurd (omega (arith, zero-mul n))
-    pos-of-mul (suc c) n k h = omega arith
-
-pub front-once : {c n L : ℕ} {b a₁ a₂ : List ℕ} → OpensFront c n L b a₁ → OpensFront c n L b a₂ → a₁ ≡ a₂
-front-once {c} {n} {L} {b} {a₁} {a₂} p q =
-    ⊎-elim (λ out. none (λ fit some. omega arith)) (λ fit. ⊎-elim (λ zero. none (λ f some. omega arith)) (opened-alike fit) (less-or-not L 1)) (less-or-not (length b) (c * n))
-  where
-    none : (c * n ≤ length b → 1 ≤ L → ⊥) → a₁ ≡ a₂
-    none h = p .none h ∙ sym (q .none h)
-
-    opened-alike : c * n ≤ length b → 1 ≤ L → a₁ ≡ a₂
-    opened-alike fit some =
-        ext-getD 0 a₁ a₂ (p .same ∙ sym (q .same))
-        (λ k h.
-        ⊎-elim
-        (same-places c n a₁ a₂ (λ j l. p .lines fit some .at j l ∙ sym (q .lines fit some .at j l)) k)
-        (λ behind. p .rest k behind ∙ sym (q .rest k behind))
-        (less-or-not k (c * n)))

@@ -1,7 +1,6 @@
 -- The laws of line/specs.
 --   Windows     the darkest of a window, and a value of a dilation and of an opening, by their bounds
 --   Passes      from windows of one length to longer ones; from erosion and dilation to the opening
---   Strides     the same for every line of an interleaved buffer
 --   Rims        a line that is dark beyond its end: passes with a value at every pixel
 --   Padding     zeros before and behind a line do not change its opening
 --   Parts       a pass over bytes (crate passes), as the windows' passes take it
@@ -10,7 +9,6 @@
 --   Examples    P1 to P6, computed from the definitions
 pub mod Windows
 pub mod Passes
-pub mod Strides
 pub mod Rims
 pub mod Padding
 pub mod Parts

@@ -1,5 +1,7 @@
--- The call `open_line`: which rules it checks, and what it leaves.
+-- The call `open_line`: which rules it checks, and what it leaves; and `open_in_place`, which has none.
+--   openedInPlace f L    what `open_in_place` makes of the line f
 use mathlib.Core.Path.{_≡_}
+use mathlib.Core.Bool.{cond}
 use mathlib.Core.List.{List, [], _∷_}
 use Prim.Native.Nat.{ℕ, _*_}
 use lib.Dec.{ltb}
@@ -26,3 +28,6 @@ pub record OpensLine (src : List ℕ) (L : ℕ) (dst dst′ scratch scratch′ :
   pub written : dst′ ≡ after a (front (opened src L) dst) dst
   pub scratch-kept : scratch′ ≡ after a scratch′ scratch
   pub scratch-length : length scratch′ ≡ length scratch
+
+abbrev pub openedInPlace : List ℕ → ℕ → List ℕ
+openedInPlace f L = cond (ltb L 1) f (opened f L)

@@ -1,11 +1,10 @@
--- What the private passes keep to. A pass goes over a whole buffer; c lines of n pixels stand in it interleaved (Lanes).
+-- What the private passes keep to: a line eroded and dilated where it stands.
 --   narrowed b d k        number k of b, or the one d behind it: the lesser
 --   widened b d k         number k of b, or the one d before it: the greater
 --   erodedTo f w i        the darkest pixel of the window of w from i on; 0 where it leaves the line
 --   reopened f L w x      the greatest of these, for windows of L, at the w places up to x
 --   Erodes, Dilates       a list begins with the values of an erosion, or of a dilation
---   ErodesLanes, DilatesLanes    the same of every line of a buffer
--- Laws: line/proofs/Passes, Parts, Strides, Rims.
+-- Laws: line/proofs/Passes, Parts, Rims.
 use mathlib.Core.Path.{_≡_}
 use mathlib.Core.Bool.{cond}
 use mathlib.Core.List.{List}
@@ -14,7 +13,6 @@ use lib.Dec.{leb}
 use lib.ListN.{length, getD}
 use Rattle.lists.specs.Tables.{table}
 use Rattle.line.specs.Windows.{darkest, dilatedAt}
-use Rattle.line.specs.Lanes.{lane}
 
 abbrev pub narrowed : List ℕ → ℕ → ℕ → ℕ
 narrowed b d k = min (getD b k 0) (getD b (k + d) 0)
@@ -35,9 +33,3 @@ pub record Erodes (f : List ℕ) (w : ℕ) (a : List ℕ) : Type 0 where
 -- a begins with the first values of the dilation of e by windows of w values, as many as e has
 pub record Dilates (e : List ℕ) (w : ℕ) (a : List ℕ) : Type 0 where
   pub at : (x : ℕ) → x < length e → getD a x 0 ≡ dilatedAt e w x
-
-pub record ErodesLanes (c n w : ℕ) (before after : List ℕ) : Type 0 where
-  pub at : (j : ℕ) → j < c → Erodes (lane c n j before) w (lane c n j after)
-
-pub record DilatesLanes (c n w : ℕ) (before after : List ℕ) : Type 0 where
-  pub at : (j : ℕ) → j < c → Dilates (lane c n j before) w (lane c n j after)

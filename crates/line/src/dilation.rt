@@ -1,5 +1,6 @@
 // The dilation of a line.
-use crate::lanes::dilate_lanes;
+use crate::Pixel;
+use crate::doubling::dilate_in_place;
 use answer::Answer;
 use answer::LONGEST;
 use answer::is_outside;
@@ -20,18 +21,14 @@ fn refusal(m: usize, length: usize, room: usize) -> Answer
     if LONGEST - m + 1 < length {
         return Answer::refused(1, 0);
     }
-    if is_outside(length, 1, LONGEST) {
-        return Answer::refused(3, 0);
-    }
     let count = m + length - 1;
-    if room < count {
-        return Answer::refused(6, count as u64);
-    }
     Answer::done(count as u64)
+        .unless(3, is_outside(length, 1, LONGEST))
+        .needing(6, room, count)
 }
 
 // The dilation into dst, which has room for just its values: they grow where they stand, with zeros behind the values of src.
-fn dilated_into(src: &[u8], length: usize, dst: &mut [u8])
+fn dilated_into(src: &[Pixel], length: usize, dst: &mut [Pixel])
     requires { ⌜ (1 ≤ length) × (1 ≤ lib.ListN.length (now src)) × (lib.ListN.length (now dst) ≡ lib.ListN.length (now src) + length - 1) ⌝ }
     ensures { λ _. ⌜ now (dst .exit) ≡ dilated (now (src .entry)) length ⌝ }
 {
@@ -39,11 +36,11 @@ fn dilated_into(src: &[u8], length: usize, dst: &mut [u8])
     let count = dst.len();
     passes::copy(src, m, dst);
     passes::blacken(dst, m, count - m);
-    dilate_lanes(dst, 1, count, length);
+    dilate_in_place(dst, length);
 }
 
 // Dilates the values src with windows of `length` values into the front of dst. Hands back the count of values. Rules 1, 3, 6.
-pub fn dilate(src: &[u8], length: usize, dst: &mut [u8]) -> Answer
+pub fn dilate(src: &[Pixel], length: usize, dst: &mut [Pixel]) -> Answer
     ensures { λ r. ⌜ DilatesLine (now (src .entry)) length (now (dst .entry)) (now (dst .exit)) r ⌝ }
 {
     let m = src.len();

@@ -1,5 +1,6 @@
 // The erosion of a line.
-use crate::lanes::erode_lanes;
+use crate::Pixel;
+use crate::doubling::erode_in_place;
 use answer::Answer;
 use answer::LONGEST;
 use answer::is_outside;
@@ -29,40 +30,36 @@ fn refusal(n: usize, length: usize, room: usize) -> Answer
     if is_outside(n, 1, LONGEST) {
         return Answer::refused(1, 0);
     }
-    if is_outside(length, 1, LONGEST) {
-        return Answer::refused(3, 0);
-    }
     let count = count_of(n, length);
-    if room < count {
-        return Answer::refused(6, count as u64);
-    }
     Answer::done(count as u64)
+        .unless(3, is_outside(length, 1, LONGEST))
+        .needing(6, room, count)
 }
 
 // The erosion into dst, which has room for just its values, by way of `line`, which has the source's length.
-fn eroded_by(src: &[u8], length: usize, line: &mut [u8], dst: &mut [u8])
+fn eroded_by(src: &[Pixel], length: usize, line: &mut [Pixel], dst: &mut [Pixel])
     requires { ⌜ (1 ≤ length) × (length ≤ lib.ListN.length (now src)) × (lib.ListN.length (now line) ≡ lib.ListN.length (now src)) × (lib.ListN.length (now dst) + length ≡ lib.ListN.length (now src) + 1) ⌝ }
     ensures { λ _. ⌜ now (dst .exit) ≡ eroded (now (src .entry)) length ⌝ }
 {
     let n = src.len();
     let count = dst.len();
     passes::copy(src, n, line);
-    erode_lanes(line, 1, n, length);
+    erode_in_place(line, length);
     passes::copy(line, count, dst);
 }
 
 // The same by way of an array: the passes go over the whole line, and dst is shorter.
-fn eroded_into(src: &[u8], length: usize, dst: &mut [u8])
+fn eroded_into(src: &[Pixel], length: usize, dst: &mut [Pixel])
     requires { ⌜ (1 ≤ length) × (length ≤ lib.ListN.length (now src)) × (lib.ListN.length (now src) ≤ longest) × (lib.ListN.length (now dst) + length ≡ lib.ListN.length (now src) + 1) ⌝ }
     ensures { λ _. ⌜ now (dst .exit) ≡ eroded (now (src .entry)) length ⌝ }
 {
     let n = src.len();
-    let mut line = [0u8; LONGEST];
+    let mut line: [Pixel; LONGEST] = [0; LONGEST];
     eroded_by(src, length, &mut line[..n], dst);
 }
 
 // Erodes the line src with windows of `length` pixels into the front of dst. Hands back the count of values. Rules 1, 3, 6.
-pub fn erode(src: &[u8], length: usize, dst: &mut [u8]) -> Answer
+pub fn erode(src: &[Pixel], length: usize, dst: &mut [Pixel]) -> Answer
     ensures { λ r. ⌜ ErodesLine (now (src .entry)) length (now (dst .entry)) (now (dst .exit)) r ⌝ }
 {
     let n = src.len();

@@ -1,5 +1,6 @@
 // The opening of a line.
-use crate::lanes::open_all;
+use crate::Pixel;
+use crate::doubling::open_in_place;
 use answer::Answer;
 use answer::LONGEST;
 use answer::is_outside;
@@ -17,30 +18,24 @@ fn refusal(n: usize, length: usize, room: usize, spare: usize) -> Answer
     if is_outside(n, 1, LONGEST) {
         return Answer::refused(1, 0);
     }
-    if is_outside(length, 1, LONGEST) {
-        return Answer::refused(3, 0);
-    }
-    if room < n {
-        return Answer::refused(6, n as u64);
-    }
-    if spare < 8 * n {
-        return Answer::refused(7, 8 * n as u64);
-    }
     Answer::done(0)
+        .unless(3, is_outside(length, 1, LONGEST))
+        .needing(6, room, n)
+        .needing(7, spare, 8 * n)
 }
 
 // The opening into dst, which has the line's length.
-fn opened_into(src: &[u8], length: usize, dst: &mut [u8])
+fn opened_into(src: &[Pixel], length: usize, dst: &mut [Pixel])
     requires { ⌜ (1 ≤ length) × (lib.ListN.length (now dst) ≡ lib.ListN.length (now src)) ⌝ }
     ensures { λ _. ⌜ now (dst .exit) ≡ opened (now (src .entry)) length ⌝ }
 {
     let n = src.len();
     passes::copy(src, n, dst);
-    open_all(dst, 1, n, length);
+    open_in_place(dst, length);
 }
 
 // Opens the line src with windows of `length` pixels into the front of dst. Hands back 0. Rules 1, 3, 6, 7.
-pub fn open_line(src: &[u8], length: usize, dst: &mut [u8], scratch: &mut [u8]) -> Answer
+pub fn open_line(src: &[Pixel], length: usize, dst: &mut [Pixel], scratch: &mut [u8]) -> Answer
     ensures { λ r. ⌜ OpensLine (now (src .entry)) length (now (dst .entry)) (now (dst .exit)) (now (scratch .entry)) (now (scratch .exit)) r ⌝ }
 {
     let n = src.len();

@@ -2,20 +2,23 @@
 --   least-le, le-least              the least is below each number, and above whatever is below each
 --   least-mem, le-least-mem         the same by what stands in the list
 --   least-cons, least-snoc          the least of a list with one number more, at its front or at its end
+--   least-in, least-mem-of          the least is one of the numbers
+--   greatest-none-or                so is the greatest, where there are any
 --   le-those, those-le              the greatest of those values that a test picks, likewise
 --   total-append, total-table       the total of two lists, and of a table one value longer
 --   total-add, total-zero           the total of a table of sums, and of zeros
 -- Assumes nothing.
-use mathlib.Core.Path.{_≡_, refl, ap, _∙_}
+use mathlib.Core.Path.{_≡_, refl, ap, subst, _∙_}
 use mathlib.Core.Bool.{Bool, true, false, false≢true}
 use mathlib.Core.List.{List, [], _∷_, _++_, List·Memᴰ, List·Memᴰ·head, List·Memᴰ·tail, List·Memᴰ·not-nil, List·Memᴰ·cases-cons}
-use mathlib.Core.Logic.{⊎-elim}
+use mathlib.Core.Logic.{_⊎_, inl, inr, ⊎-elim}
 use Prim.Native.Nat.{ℕ, zero, suc, _+_, _≤_, _<_, min, max, zero-le, suc-le-suc}
 use native.Mathlib.Nat.{not-suc-le-zero, le-of-suc-le-suc, eq-or-lt-of-le, le-refl, le-trans, min-le-left, min-le-right, le-min, le-max-left, max-le}
 use native.Mathlib.Omega.{arith}
 use lib.ListN.{length, getD}
 use Rattle.lists.specs.Tables.{each, keep, table, those}
 use Rattle.lists.specs.Extremes.{least, greatest, total}
+use Rattle.lists.proofs.Cases.{less-or-not}
 
 -- ---- the least
 
@@ -61,6 +64,19 @@ le-least-mem k (x ∷ []) a m h = h x (List·Memᴰ·head refl)
 le-least-mem k (x ∷ (y ∷ ys)) a m h =
     le-min (h x (List·Memᴰ·head refl)) (le-least-mem k (y ∷ ys) y (List·Memᴰ·head refl) (λ b n. h b (List·Memᴰ·tail n)))
 
+pub least-in : (x : ℕ) (xs : List ℕ) → List·Memᴰ (least (x ∷ xs)) (x ∷ xs)
+unfolding least
+least-in x [] = List·Memᴰ·head refl
+least-in x (y ∷ ys) = go (least-in y ys) (less-or-not x (least (y ∷ ys)))
+  where
+    go : List·Memᴰ (least (y ∷ ys)) (y ∷ ys) → (x < least (y ∷ ys)) ⊎ (least (y ∷ ys) ≤ x) → List·Memᴰ (min x (least (y ∷ ys))) (x ∷ (y ∷ ys))
+    go m (inl lo) = let e : min x (least (y ∷ ys)) ≡ x = omega arith in List·Memᴰ·head e
+    go m (inr hi) = let e : least (y ∷ ys) ≡ min x (least (y ∷ ys)) = omega arith in List·Memᴰ·tail (subst (λ (v : ℕ). List·Memᴰ v (y ∷ ys)) e m)
+
+pub least-mem-of : (a : ℕ) (l : List ℕ) → List·Memᴰ a l → List·Memᴰ (least l) l
+least-mem-of a [] m = absurd (List·Memᴰ·not-nil m)
+least-mem-of a (x ∷ xs) m = least-in x xs
+
 -- ---- the greatest
 
 pub greatest-append : (s t : List ℕ) → greatest (s ++ t) ≡ max (greatest s) (greatest t)
@@ -95,6 +111,19 @@ those-le p g zero k a = zero-le
 those-le p g (suc n) k a =
     rw (greatest-append (those p g n) (keep (p n) (g n)))
     (max-le (those-le p g n k (λ i h e. a i (omega arith) e)) (keep-le (p n) (g n) k (a n (omega arith))))
+
+greatest-in : (x : ℕ) (xs : List ℕ) → List·Memᴰ (greatest (x ∷ xs)) (x ∷ xs)
+unfolding greatest
+greatest-in x [] = let e : max x 0 ≡ x = omega arith in List·Memᴰ·head e
+greatest-in x (y ∷ ys) = go (greatest-in y ys) (less-or-not x (greatest (y ∷ ys)))
+  where
+    go : List·Memᴰ (greatest (y ∷ ys)) (y ∷ ys) → (x < greatest (y ∷ ys)) ⊎ (greatest (y ∷ ys) ≤ x) → List·Memᴰ (max x (greatest (y ∷ ys))) (x ∷ (y ∷ ys))
+    go m (inr lo) = let e : max x (greatest (y ∷ ys)) ≡ x = omega arith in List·Memᴰ·head e
+    go m (inl hi) = let e : greatest (y ∷ ys) ≡ max x (greatest (y ∷ ys)) = omega arith in List·Memᴰ·tail (subst (λ (v : ℕ). List·Memᴰ v (y ∷ ys)) e m)
+
+pub greatest-none-or : (l : List ℕ) → (l ≡ []) ⊎ List·Memᴰ (greatest l) l
+greatest-none-or [] = inl refl
+greatest-none-or (x ∷ xs) = inr (greatest-in x xs)
 
 -- ---- the total
 

@@ -5,6 +5,7 @@
 --   those-same                    tests and values alike
 --   those-one                     the one number that is t below u
 --   those-stretch                 the numbers from `from` on, count of them
+--   those-reached                 the greatest of them is one of them
 -- Assumes nothing.
 use mathlib.Core.Path.{_≡_, refl, sym, ap, ap₂, _∙_, subst}
 use mathlib.Core.Bool.{Bool, true, false, _&&_}
@@ -15,8 +16,10 @@ use native.Mathlib.Omega.{arith}
 use borrow.Author.Tests.{eq-eqb, ne-eqb, leb-true, leb-false, ltb-true, ltb-false}
 use lib.Dec.{leb, ltb, eqb}
 use Rattle.lists.specs.Tables.{each, keep, table, those}
+use Rattle.lists.specs.Extremes.{greatest}
 use Rattle.lists.proofs.Cases.{less-or-not}
 use Rattle.lists.proofs.Tables.{each-same, each-none}
+use Rattle.lists.proofs.Extremes.{greatest-none-or}
 
 -- ---- a function over such a list
 
@@ -139,3 +142,14 @@ module _ {A : Type 0} where
           ∙ ap (λ (x : ℕ). g x ∷ []) k)
       go true d false e = let k = ltb-false u (t + n) e in rw (d, e) (none (λ b l w. omega arith))
       go false d w e = let k = leb-false t u d in rw d (none (λ b l w. omega arith))
+
+-- the greatest of those values that a test picks is one of them, and 0 where there is none
+pub those-reached : (p : ℕ → Bool) (g : ℕ → ℕ) (n : ℕ)
+    → ((i : ℕ) × (i < n) × (p i ≡ true) × (g i ≡ greatest (those p g n))) ⊎ (((i : ℕ) → i < n → p i ≡ true → ⊥) × (greatest (those p g n) ≡ 0))
+unfolding greatest
+those-reached p g n = go (greatest-none-or (those p g n))
+  where
+    go : (those p g n ≡ []) ⊎ List·Memᴰ (greatest (those p g n)) (those p g n)
+        → ((i : ℕ) × (i < n) × (p i ≡ true) × (g i ≡ greatest (those p g n))) ⊎ (((i : ℕ) → i < n → p i ≡ true → ⊥) × (greatest (those p g n) ≡ 0))
+    go (inl e) = inr ((λ i h t. List·Memᴰ·not-nil (subst (List·Memᴰ (g i)) e (those-in p g n i h t))), ap greatest e)
+    go (inr m) = let q = those-mem p g n (greatest (those p g n)) m in inl (q .i, q .below, q .passed, sym (q .is))

@@ -5,9 +5,10 @@
 --   filled-end, filled-start, filled-as    the same stretch, its ends and values known by equations
 --   filled-whole, filled-copy, filled-front    what a filled list is
 --   filled-once                     one stretch of stores leaves one list
---   front-length, front-more        values at the front: the length stays, and one value more is one store
+--   front-at, front-past            the values at the front, and what follows them
+--   front-length, front-more        the length stays, and one value more is one store
 -- Assumes nothing.
-use mathlib.Core.Path.{_≡_, refl, sym, _∙_, subst}
+use mathlib.Core.Path.{_≡_, refl, sym, ap, _∙_, subst}
 use mathlib.Core.List.{List, [], _∷_, _++_, append-assoc}
 use mathlib.Core.Logic.{⊎-elim}
 use Prim.Native.Nat.{ℕ, suc, _+_, _-_, _≤_, _<_, zero-le}
@@ -99,6 +100,17 @@ filled-whole {d} {a} {hi} {F} f e = table-by 0 a F hi (f .same ∙ sym e) (λ k 
 pub filled-copy : {d a : List ℕ} {hi : ℕ} (f : List ℕ) → Filled d a 0 hi (λ (k : ℕ). getD f k 0) → hi ≡ length f → length d ≡ length f → a ≡ f
 filled-copy {d} {a} {hi} f p e n = ext-getD 0 a f (p .same ∙ n) (λ k l. p .within k zero-le (omega (arith, p .same)))
 
+pub front-at : {A : Type 0} (vs dst : List A) (i : ℕ) (d : A) → i < length vs → getD (front vs dst) i d ≡ getD vs i d
+front-at vs dst i d h = List·getD-append vs (drop (length vs) dst) d i h
+
+pub front-past : {A : Type 0} (vs dst : List A) (k : ℕ) (d : A) → length vs ≤ k → getD (front vs dst) k d ≡ getD dst k d
+front-past vs dst k d h =
+    let e : length vs + (k - length vs) ≡ k = omega arith in
+    ap (λ (i : ℕ). getD (front vs dst) i d) (sym e)
+    ∙ getD-append-add vs (drop (length vs) dst) (k - length vs) d
+    ∙ getD-drop (length vs) dst (k - length vs) d
+    ∙ ap (λ (i : ℕ). getD dst i d) e
+
 -- filled with the values vs at the front
 pub filled-front : {d a : List ℕ} {hi : ℕ} (vs : List ℕ) → Filled d a 0 hi (λ (k : ℕ). getD vs k 0) → length vs ≡ hi → hi ≤ length d → a ≡ front vs d
 filled-front {d} {a} {hi} vs f e fit =
@@ -106,12 +118,8 @@ filled-front {d} {a} {hi} vs f e fit =
     (f .same ∙ omega (arith, length-append vs (drop (length vs) d), length-drop (length vs) d))
     (λ k l.
     ⊎-elim
-    (λ q. f .within k zero-le q ∙ sym (List·getD-append vs (drop (length vs) d) 0 k (omega arith)))
-    (λ q.
-    let s : length vs + (k - length vs) ≡ k = omega arith in
-    let r : getD (front vs d) (length vs + (k - length vs)) 0 ≡ getD d (length vs + (k - length vs)) 0 =
-    getD-append-add vs (drop (length vs) d) (k - length vs) 0 ∙ getD-drop (length vs) d (k - length vs) 0 in
-    f .above k q ∙ sym (rw s at r))
+    (λ q. f .within k zero-le q ∙ sym (front-at vs d k 0 (omega arith)))
+    (λ q. f .above k q ∙ sym (front-past vs d k 0 (omega arith)))
     (less-or-not k hi))
 
 pub filled-once : {b b₁ b₂ : List ℕ} {lo hi : ℕ} {F : ℕ → ℕ} → Filled b b₁ lo hi F → Filled b b₂ lo hi F → b₁ ≡ b₂

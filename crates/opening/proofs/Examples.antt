@@ -13,10 +13,8 @@ use Rattle.frame.specs.declared.shape.Shape.{Shape}
 use Rattle.frame.specs.Direction.{dir, along}
 use Rattle.frame.specs.Shape.{shape}
 use Rattle.frame.specs.Lines as lines
-use Rattle.strips.specs.Pixels as strips
-use Rattle.strips.specs.Pixels.{openedPixel}
 use Rattle.opening.specs.Pixels as pixels
-use Rattle.opening.specs.Pixels.{highestAt, directionAt}
+use Rattle.opening.specs.Pixels.{openedPixel, highestAt, directionAt}
 use Rattle.opening.specs.Frames.{openRules}
 use Rattle.opening.specs.Sixteen.{highestRules}
 use Rattle.opening.specs.Directions.{directionRules}
@@ -37,21 +35,21 @@ picture F = each (λ (y : ℕ). table (λ (x : ℕ). F x y) 3) 3
 
 -- no window along is brighter than 1
 pub along-dark : picture (openedPixel strand small along 3) ≡ 1 ∷ 1 ∷ 1 ∷ 1 ∷ 1 ∷ 1 ∷ 1 ∷ 1 ∷ 1 ∷ []
-unfolding tables.each extremes.least extremes.greatest windows.opened lines.r strips.indexIn strips.openedPixel
+unfolding tables.each extremes.least extremes.greatest windows.opened lines.r lines.indexIn pixels.openedPixel
 along-dark = refl
 
 -- on the diagonal the strand stays, and no other line has three pixels
 pub diagonal-bright : picture (openedPixel strand small (dir (pos 1) (pos 1)) 3) ≡ 9 ∷ 0 ∷ 0 ∷ 0 ∷ 9 ∷ 0 ∷ 0 ∷ 0 ∷ 9 ∷ []
-unfolding tables.each extremes.least extremes.greatest windows.opened lines.r strips.indexIn strips.openedPixel
+unfolding tables.each extremes.least extremes.greatest windows.opened lines.r lines.indexIn pixels.openedPixel
 diagonal-bright = refl
 
 pub highest-both : picture (highestAt strand small 3) ≡ 9 ∷ 1 ∷ 1 ∷ 1 ∷ 9 ∷ 1 ∷ 1 ∷ 1 ∷ 9 ∷ []
-unfolding tables.each extremes.least extremes.greatest windows.opened lines.r strips.indexIn strips.openedPixel
+unfolding tables.each extremes.least extremes.greatest windows.opened lines.r lines.indexIn pixels.openedPixel
 highest-both = refl
 
 -- (4, 3), (1, 1) and (3, 4), numbers 3 to 5, all hold the diagonal here: the tie goes to 3; elsewhere along has it
 pub lowest-number : picture (directionAt strand small 3) ≡ 3 ∷ 0 ∷ 0 ∷ 0 ∷ 3 ∷ 0 ∷ 0 ∷ 0 ∷ 3 ∷ []
-unfolding tables.each extremes.least extremes.greatest windows.opened lines.r strips.indexIn strips.openedPixel pixels.firstGreatest
+unfolding tables.each extremes.least extremes.greatest windows.opened lines.r lines.indexIn pixels.openedPixel pixels.firstGreatest
 lowest-number = refl
 
 -- 11 bytes of frame and 24 of scratch are enough; the direction frame needs 9 more

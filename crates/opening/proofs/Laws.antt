@@ -11,8 +11,8 @@ use Rattle.answer.specs.declared.Answer.{Answer}
 use Rattle.frame.specs.declared.direction.Direction.{Direction}
 use Rattle.frame.specs.declared.shape.Shape.{Shape}
 use Rattle.frame.specs.Shape.{isFrame}
-use Rattle.strips.specs.Pixels.{Painted}
-use Rattle.strips.proofs.Paintings.{painted-once}
+use Rattle.frame.specs.Painted.{Painted}
+use Rattle.frame.proofs.Paintings.{painted-once}
 use Rattle.opening.specs.Frames.{OpensFrame}
 use Rattle.opening.specs.Sixteen.{FindsHighest}
 use Rattle.opening.specs.Directions.{FindsDirections}

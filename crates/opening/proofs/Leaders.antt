@@ -3,9 +3,9 @@
 --   first-one, first-more           the lowest index that reaches it
 -- Assumes nothing.
 use mathlib.Core.Path.{_≡_, refl, sym, ap, _∙_}
-use mathlib.Core.Bool.{Bool, true, false, cond}
+use mathlib.Core.Bool.{Bool, true, cond}
 use mathlib.Core.Logic.{_⊎_, inl, inr}
-use mathlib.Core.List.{List, [], _∷_, List·Memᴰ}
+use mathlib.Core.List.{[], _∷_}
 use Prim.Native.Nat.{ℕ, zero, suc, _+_, _≤_, _<_, max}
 use native.Mathlib.Nat.{le-antisymm}
 use native.Mathlib.Numerals.{add-one}
@@ -15,7 +15,7 @@ use lib.Dec.{eqb, ltb}
 use Rattle.lists.specs.Tables as tables
 use Rattle.lists.specs.Tables.{table, those}
 use Rattle.lists.specs.Extremes as extremes
-use Rattle.lists.specs.Extremes.{least, greatest}
+use Rattle.lists.specs.Extremes.{greatest}
 use Rattle.lists.proofs.Cases.{less-or-not}
 use Rattle.lists.proofs.Extremes.{greatest-append, le-those, least-mem, le-least-mem}
 use Rattle.lists.proofs.Picks.{those-mem, those-in}

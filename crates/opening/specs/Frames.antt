@@ -9,9 +9,9 @@ use Rattle.answer.specs.Rules.{Rule, rule, answer}
 use Rattle.frame.specs.declared.direction.Direction.{Direction}
 use Rattle.frame.specs.declared.shape.Shape.{Shape}
 use Rattle.frame.specs.Direction.{isDirection}
-use Rattle.frame.specs.Shape.{isFrame}
-use Rattle.strips.specs.Pixels.{openedPixel, Painted}
-use Rattle.strips.specs.Engine.{stripBytes}
+use Rattle.frame.specs.Shape.{isFrame, scratchFor}
+use Rattle.frame.specs.Painted.{Painted}
+use Rattle.opening.specs.Pixels.{openedPixel}
 use Rattle.opening.specs.Buffers.{bufferRules}
 
 -- rules 1, 2, 3, 5, 6 and 7
@@ -19,7 +19,7 @@ abbrev pub openRules : Shape → Direction → ℕ → ℕ → ℕ → ℕ → L
 openRules sh d L size room spare =
     rule (not (isFrame sh)) 1 0
     ∷ rule (not (isDirection d)) 2 0
-    ∷ bufferRules sh L size room spare (stripBytes sh)
+    ∷ bufferRules sh L size room spare (scratchFor sh)
 
 -- f is the frame, g the destination and t the scratch. What scratch holds after a done call is left open, its length apart.
 pub record OpensFrame (f : List ℕ) (sh : Shape) (d : Direction) (L : ℕ) (g g′ t t′ : List ℕ) (a : Answer) : Type 0 where

@@ -3,12 +3,10 @@
 use mathlib.Core.Path.{_≡_}
 use mathlib.Core.List.{List}
 use Prim.Native.Nat.{ℕ, _+_, _*_, _%_, _^_}
-use lib.ListN.{length}
 use Rattle.answer.specs.declared.Answer.{Answer}
-use Rattle.answer.specs.Rules.{answer}
 use Rattle.frame.specs.declared.direction.Direction.{Direction}
 use Rattle.frame.specs.declared.shape.Shape.{Shape}
-use Rattle.opening.specs.Frames.{openRules, OpensFrame}
+use Rattle.opening.specs.Frames.{OpensFrame}
 
 -- of every answer; the figure counts up to 2^32
 abbrev pub packed : Answer → ℕ

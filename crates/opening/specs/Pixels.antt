@@ -1,18 +1,27 @@
--- The highest opening of a frame and its direction, pixel by pixel (document 01, 'Windows and openings'). What an opened pixel is stands in
--- strips/specs/Pixels.
+-- A frame opened in a direction, the highest of its openings and that one's direction, pixel by pixel (document 01, 'Windows and openings'): everything
+-- computes on a frame that is written out.
+--   openedPixel f sh d L x y  pixel (x, y) of the frame f opened in direction d
 --   inDirection f sh L x y n  pixel (x, y) of the frame f opened in the numbered direction n
 --   highestAt f sh L x y      the greatest of these over the sixteen
 --   firstGreatest v n         the lowest number below n at which v is greatest
 --   directionAt f sh L x y    the lowest direction number that reaches the highest
--- Laws: opening/proofs/Leaders.
+-- Laws: opening/proofs/Bridge, Leaders.
 use mathlib.Core.List.{List}
 use Prim.Native.Nat.{ℕ}
 use lib.Dec.{eqb}
+use lib.ListN.{getD}
 use Rattle.lists.specs.Tables.{table, those}
 use Rattle.lists.specs.Extremes.{least, greatest}
+use Rattle.line.specs.Windows.{opened}
+use Rattle.frame.specs.declared.direction.Direction.{Direction}
 use Rattle.frame.specs.declared.shape.Shape.{Shape}
 use Rattle.frame.specs.Direction.{numberedOf}
-use Rattle.strips.specs.Pixels.{openedPixel}
+use Rattle.frame.specs.Lines.{at, lineOf, pixels, lineRead, pixelsFor, indexIn}
+
+-- 'A frame is opened line by line in one direction.'
+unfoldable pub openedPixel : List ℕ → Shape → Direction → ℕ → ℕ → ℕ → ℕ
+openedPixel f sh d L x y =
+    getD (opened (lineRead f sh d (lineOf d x y)) (pixelsFor d L)) (indexIn (at x y) (pixels sh d (lineOf d x y))) 0
 
 abbrev pub inDirection : List ℕ → Shape → ℕ → ℕ → ℕ → ℕ → ℕ
 inDirection f sh L x y n = openedPixel f sh (numberedOf n) L x y

@@ -1,4 +1,5 @@
 // The entry for the camera's host, written in C: numbers and byte slices in, one number back.
+use crate::Pixel;
 use crate::frames::open_frame;
 use answer::Answer;
 use frame::Direction;
@@ -21,14 +22,14 @@ fn pack(a: Answer) -> u64
 // Opens a frame as `open_frame` does.
 #[no_mangle]
 pub extern "C" fn fibre_open_frame(
-    src: &[u8],
+    src: &[Pixel],
     width: usize,
     height: usize,
     stride: usize,
     p: i64,
     q: i64,
     length: usize,
-    dst: &mut [u8],
+    dst: &mut [Pixel],
     scratch: &mut [u8],
 ) -> u64
     ensures { λ n. ⌜ HostOpens (now (src .entry)) (shape width height stride) (dir p q) length (now (dst .entry)) (now (dst .exit)) (now (scratch .entry)) (now (scratch .exit)) n ⌝ }

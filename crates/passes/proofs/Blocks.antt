@@ -1,36 +1,34 @@
--- A pass by blocks or byte by byte, in place, whatever its partners are: what it has yet to read is as it was where it began.
---   Awaits partner at n              a pass upward over the n bytes from `at` on finds partner j as it was until it has come to byte j
+-- A pass by blocks, in place, whatever its partners are: what it has yet to read is as it was where it began.
+--   Awaits partner at n              a pass upward over the n pixels from `at` on finds partner j as it was until it has come to pixel j
 --   Outlasts partner at n            the same of a pass downward
---   straight-awaits, bent-awaits     partners in a row ahead, or in two of them
---   straight-outlasts, bent-outlasts partners in a row behind, or in two of them
+--   Keeps up partner at n            the same of a pass that goes one of the two ways
+--   goes-by, goes-straight           the way that a pass goes
+--   last-at                          where the last block stands
+--   straight-keeps, bent-keeps                       partners in two rows that the pass does not change before it reads them
 --   one-of                           one of two numbers
---   bent-is                          the byte that a mark names
+--   bent-is                          the pixel that a mark names
 --   met-is                           what a turn makes of what it reads
 --   met-ahead, met-behind            the same of what it finds, in terms of where the pass began: upward, and downward
---   met-block, met-block-before      a block of c bytes more, behind the others or before them
+--   met-block, met-block-before      a block of c pixels more, behind the others or before them
 --   met-late, met-early              a block made in the course of a pass is as one made where it began: upward, and downward
 --   met-last, met-first              a block stored over some of the others
---   met-upward, met-downward         a row by blocks, the last two of which overlap
--- From the buffer g into another:
---   into-block, raise-block          a block made of g, stored there, or raising what is there
---   onto-block                       a block of g that meets what is there
---   onto-more                        one block more, of those that raise or meet what is there
---   darkened-twice, brightened-twice what has met its partner is the same when it meets it again
---   into-over, onto-over             a row by blocks, the last of which came first
+--   met-once                         a row of one block
+--   met-none, met-more, met-ends     a row by blocks, either way: none yet, one more, and the last two, which overlap
 -- Assumes nothing.
 use mathlib.Core.Path.{_≡_, refl, sym, ap, ap₂, _∙_}
 use mathlib.Core.Bool.{Bool, true, false, cond}
 use mathlib.Core.List.{List}
-use mathlib.Core.Logic.{⊎-elim}
-use Prim.Native.Nat.{ℕ, _+_, _-_, _≤_, _<_, min, max}
+use mathlib.Core.Logic.{inl, ⊎-elim}
+use Prim.Native.Nat.{ℕ, _+_, _-_, _*_, _≤_, _<_, min, max}
 use native.Mathlib.Nat.{le-refl}
 use native.Mathlib.Omega.{arith}
-use lib.Dec.{eqb}
+use borrow.Author.Tests.{leb-true, leb-false}
+use lib.Dec.{eqb, leb}
 use lib.ListN.{getD}
 use Rattle.lists.specs.Stores.{Filled}
 use Rattle.lists.proofs.Cases.{less-or-not}
-use Rattle.lists.proofs.Stores.{filled-as, filled-end, filled-join, filled-join-before}
-use Rattle.passes.specs.Passes.{straight, bent, met, Ahead, Behind}
+use Rattle.lists.proofs.Stores.{filled-none, filled-as, filled-start, filled-end, filled-join, filled-join-before}
+use Rattle.passes.specs.Passes.{straight, bent, met, blockAt, treatedFrom, treatedTo, Ahead, Goes, Parted}
 
 -- ---- partners
 
@@ -49,7 +47,7 @@ straight-awaits at from n q g a s t F j f low next here =
     (λ before. f .below (from + j) (omega arith))
     q
 
-pub straight-outlasts : (at from n : ℕ) → Behind at from n → Outlasts (straight from) at n
+pub straight-outlasts : (at from n : ℕ) → Ahead from at n → Outlasts (straight from) at n
 straight-outlasts at from n q g a s t F j f high here =
     ⊎-elim
     (λ before. f .below (from + j) (omega arith))
@@ -64,7 +62,7 @@ pub bent-awaits : (m : List ℕ) (at near far n : ℕ) → Ahead at near n → A
 bent-awaits m at near far n p q g a s t F j f low next here =
     bent-same m a g near far j (straight-awaits at near n p g a s t F j f low next here) (straight-awaits at far n q g a s t F j f low next here)
 
-pub bent-outlasts : (m : List ℕ) (at near far n : ℕ) → Behind at near n → Behind at far n → Outlasts (bent m near far) at n
+pub bent-outlasts : (m : List ℕ) (at near far n : ℕ) → Ahead near at n → Ahead far at n → Outlasts (bent m near far) at n
 bent-outlasts m at near far n p q g a s t F j f high here =
     bent-same m a g near far j (straight-outlasts at near n p g a s t F j f high here) (straight-outlasts at far n q g a s t F j f high here)
 
@@ -141,17 +139,6 @@ module _ (op : ℕ → ℕ → ℕ) (partner : List ℕ → ℕ → ℕ) (at : �
         (omega arith) (omega arith))
         (omega arith)
 
-    -- a row: the blocks up to at + i are done; then s at at + i and t, the last, are both made before either is stored
-    pub met-upward : {g a b e : List ℕ} (c : ℕ) (s t : List ℕ) (i : ℕ) → Filled g a at (at + i) (met op partner at g) → i + c ≤ n → n ≤ i + c + c
-        → ((k : ℕ) → k < c → getD s k 0 ≡ op (getD a (at + (i + k)) 0) (partner a (i + k)))
-        → ((k : ℕ) → k < c → getD t k 0 ≡ op (getD a (at + (n - c + k)) 0) (partner a (n - c + k)))
-        → Filled a b (at + i) (at + i + c) (λ (k : ℕ). getD s (k - (at + i)) 0)
-        → Filled b e (at + (n - c)) (at + (n - c) + c) (λ (k : ℕ). getD t (k - (at + (n - c))) 0)
-        → Filled g e at (at + n) (met op partner at g)
-    met-upward {g} c s t i f room near v w p q =
-        met-last g c t (n - c) (at + (n - c)) (met-late c t (n - c) f (le-refl at) (omega arith) (omega arith) (omega arith) w) q refl
-        (met-block c s i f room v p) (omega arith) (omega arith) (omega arith)
-
   -- ---- downward
 
   module _ (n : ℕ) (outlast : Outlasts partner at n) where
@@ -180,80 +167,90 @@ module _ (op : ℕ → ℕ → ℕ) (partner : List ℕ → ℕ → ℕ) (at : �
         (sym start))
         (omega arith) room
 
-    -- a row: the blocks from at + (i + c) on are done; then s at at + i and t, the first, are both made before either is stored
-    pub met-downward : {g a b e : List ℕ} {lo : ℕ} (c : ℕ) (s t : List ℕ) (i : ℕ) → Filled g a lo (at + n) (met op partner at g) → lo ≡ at + i + c → i + c ≤ n → i ≤ c
-        → ((k : ℕ) → k < c → getD s k 0 ≡ op (getD a (at + (i + k)) 0) (partner a (i + k)))
-        → ((k : ℕ) → k < c → getD t k 0 ≡ op (getD a (at + (0 + k)) 0) (partner a (0 + k)))
-        → Filled a b (at + i) (at + i + c) (λ (k : ℕ). getD s (k - (at + i)) 0)
-        → Filled b e at (at + c) (λ (k : ℕ). getD t (k - at) 0)
-        → Filled g e at (at + n) (met op partner at g)
-    met-downward {g} c s t i f start room near v w p q =
-        met-first g c t 0 at (met-early c t 0 f (le-refl (at + n)) (omega arith) w) q (omega arith)
-        (met-block-before c s i f start (omega arith) v p) (omega arith) (omega arith) (omega arith) refl
+-- ---- a row, either way
 
--- ---- from the buffer g into another
+pub record Keeps (up : Bool) (partner : List ℕ → ℕ → ℕ) (at n : ℕ) : Type 0 where
+  pub upward : up ≡ true → Awaits partner at n
+  pub downward : up ≡ false → Outlasts partner at n
 
-module _ (op : ℕ → ℕ → ℕ) (partner : List ℕ → ℕ → ℕ) (at : ℕ) (g t : List ℕ) (i : ℕ)
-    (v : (k : ℕ) → k < 64 → getD t k 0 ≡ op (getD g (at + (i + k)) 0) (partner g (i + k))) where
-  block-made : (x : ℕ) → at + i ≤ x → x < at + i + 64 → getD t (x - (at + i)) 0 ≡ met op partner at g x
-  block-made x l h =
-      let e : at + (i + (x - (at + i))) ≡ x = omega arith in
-      v (x - (at + i)) (omega arith) ∙ met-is op partner at g (i + (x - (at + i))) x e
-
-  pub into-block : {a b : List ℕ} → Filled a b (at + i) (at + i + 64) (λ (x : ℕ). getD t (x - (at + i)) 0) → Filled a b (at + i) (at + i + 64) (met op partner at g)
-  into-block f = filled-as f (met op partner at g) block-made
-
-  pub raise-block : {a b : List ℕ} → Filled a b (at + i) (at + i + 64) (λ (x : ℕ). max (getD a x 0) (getD t (x - (at + i)) 0))
-      → Filled a b (at + i) (at + i + 64) (λ (x : ℕ). max (getD a x 0) (met op partner at g x))
-  raise-block {a} f = filled-as f (λ (x : ℕ). max (getD a x 0) (met op partner at g x)) (λ x l h. ap (max (getD a x 0)) (block-made x l h))
-
--- t is the block at from + i of the row of g that starts at `from`, and meets the one at at + i
-pub onto-block : (op : ℕ → ℕ → ℕ) {a b : List ℕ} (g t : List ℕ) (from at i : ℕ) → ((k : ℕ) → k < 64 → getD t k 0 ≡ getD g (from + i + k) 0)
-    → Filled a b (at + i) (at + i + 64) (λ (x : ℕ). op (getD a x 0) (getD t (x - (at + i)) 0))
-    → Filled a b (at + i) (at + i + 64) (λ (x : ℕ). op (getD a x 0) (straight from g (x - at)))
-onto-block op {a} g t from at i v f =
-    filled-as f (λ (x : ℕ). op (getD a x 0) (straight from g (x - at)))
-    (λ x l h.
-    let e : from + i + (x - (at + i)) ≡ from + (x - at) = omega arith in
-    ap (op (getD a x 0)) (v (x - (at + i)) (omega arith) ∙ ap (λ (y : ℕ). getD g y 0) e))
-
-pub onto-more : (op : ℕ → ℕ → ℕ) {d a b : List ℕ} {lo mid hi : ℕ} (G : ℕ → ℕ) → Filled d a lo mid (λ (x : ℕ). op (getD d x 0) (G x))
-    → Filled a b mid hi (λ (x : ℕ). op (getD a x 0) (G x)) → lo ≤ mid → mid ≤ hi → Filled d b lo hi (λ (x : ℕ). op (getD d x 0) (G x))
-onto-more op {d} G f p low high =
-    filled-join f (filled-as p (λ (x : ℕ). op (getD d x 0) (G x)) (λ x l h. ap (λ (y : ℕ). op y (G x)) (f .above x l))) low high
-
--- from lo to mid, where from late on, late no further than mid, it was done before
-pub into-over : {d a b : List ℕ} {lo late mid hi : ℕ} {F : ℕ → ℕ} → Filled d a late hi F → Filled a b lo mid F → lo ≤ late → late ≤ mid → mid ≤ hi → Filled d b lo hi F
-into-over {lo = lo} {mid = mid} f p low some high =
+pub bent-keeps : {up : Bool} (m : List ℕ) {at near far n : ℕ} → Goes up at near far n → Keeps up (bent m near far) at n
+bent-keeps m {at} {near} {far} {n} goes =
     record {
-      same = p .same ∙ f .same;
-      within = λ x l h. ⊎-elim (λ q. p .within x l q) (λ q. p .above x q ∙ f .within x (omega arith) h) (less-or-not x mid);
-      below = λ x l. p .below x l ∙ f .below x (omega arith);
-      above = λ x l. p .above x (omega arith) ∙ f .above x l;
+      upward = λ e. bent-awaits m at near far n (goes .upward e .0) (goes .upward e .1);
+      downward = λ e. bent-outlasts m at near far n (goes .downward e .0) (goes .downward e .1);
     }
 
-pub darkened-twice : (u v : ℕ) → min (min u v) v ≡ min u v
-darkened-twice u v = omega arith
-
-pub brightened-twice : (u v : ℕ) → max (max u v) v ≡ max u v
-brightened-twice u v = omega arith
-
-pub onto-over : (op : ℕ → ℕ → ℕ) → ((u v : ℕ) → op (op u v) v ≡ op u v) → {d a b : List ℕ} {lo late mid hi : ℕ} (G : ℕ → ℕ)
-    → Filled d a late hi (λ (x : ℕ). op (getD d x 0) (G x)) → Filled a b lo mid (λ (x : ℕ). op (getD a x 0) (G x))
-    → lo ≤ late → late ≤ mid → mid ≤ hi → Filled d b lo hi (λ (x : ℕ). op (getD d x 0) (G x))
-onto-over op twice {d} {lo = lo} {late = late} {mid = mid} G f p low some high =
+pub straight-keeps : {up : Bool} {at from n : ℕ} → Goes up at from from n → Keeps up (straight from) at n
+straight-keeps {up} {at} {from} {n} goes =
     record {
-      same = p .same ∙ f .same;
-      within = λ x l h.
-          ⊎-elim
-          (λ q.
-          p .within x l q
-          ∙ ⊎-elim
-          (λ before. ap (λ (y : ℕ). op y (G x)) (f .below x before))
-          (λ from. ap (λ (y : ℕ). op y (G x)) (f .within x from h) ∙ twice (getD d x 0) (G x))
-          (less-or-not x late))
-          (λ q. p .above x q ∙ f .within x (omega arith) h)
-          (less-or-not x mid);
-      below = λ x l. p .below x l ∙ f .below x (omega arith);
-      above = λ x l. p .above x (omega arith) ∙ f .above x l;
+      upward = λ e. straight-awaits at from n (goes .upward e .0);
+      downward = λ e. straight-outlasts at from n (goes .downward e .0);
     }
+
+pub goes-by : (at near far n : ℕ) → Parted at near far n → Goes (leb at near) at near far n
+goes-by at near far n p =
+    record {
+      upward = λ e. let h = leb-true at near e in (inl h, ⊎-elim (λ q. q .1) (λ q. absurd (omega (arith, q .0, h))) p);
+      downward = λ e. let h = leb-false at near e in (inl (omega (arith, h)), ⊎-elim (λ q. absurd (omega (arith, q .0, h))) (λ q. q .1) p);
+    }
+
+pub last-at : (n z : ℕ) (up : Bool) → z ≡ blockAt n 0 up → 64 ≤ n → n - 64 - z ≡ cond up (n - 64) 0
+last-at n z true e h = let x : z ≡ 64 * 0 = e in omega (arith, x)
+last-at n z false e h = let x : z ≡ n - 64 * 0 - 64 = e in omega (arith, x)
+
+pub goes-straight : (at from n : ℕ) → Goes (leb at from) at from from n
+goes-straight at from n =
+    record {
+      upward = λ e. let h = leb-true at from e in (inl h, inl h);
+      downward = λ e. let h = leb-false at from e in (inl (omega (arith, h)), inl (omega (arith, h)));
+    }
+
+module _ (op : ℕ → ℕ → ℕ) (partner : List ℕ → ℕ → ℕ) (at n : ℕ) where
+  pub met-once : {g b : List ℕ} (t : List ℕ) → ((k : ℕ) → k < n → getD t k 0 ≡ op (getD g (at + (0 + k)) 0) (partner g (0 + k)))
+      → Filled g b at (at + n) (λ (k : ℕ). getD t (k - at) 0) → Filled g b at (at + n) (met op partner at g)
+  met-once {g} t v p =
+      filled-as p (met op partner at g)
+      (λ x l h.
+      let e : at + (0 + (x - at)) ≡ x = omega arith in
+      v (x - at) (omega arith) ∙ met-is op partner at g (0 + (x - at)) x e)
+
+  pub met-none : (up : Bool) (g : List ℕ) → Filled g g (at + treatedFrom n 0 up) (at + treatedTo n 0 up) (met op partner at g)
+  met-none true g = filled-end (filled-none g (at + 0) (met op partner at g)) (omega arith)
+  met-none false g = filled-end (filled-none g (at + (n - 64 * 0)) (met op partner at g)) (omega arith)
+
+  -- t is block k of the row, and stands at i
+  pub met-more : (up : Bool) → Keeps up partner at n → {g a b : List ℕ} (t : List ℕ) (k i : ℕ) → i ≡ blockAt n k up
+      → Filled g a (at + treatedFrom n k up) (at + treatedTo n k up) (met op partner at g) → 64 * k + 64 ≤ n
+      → ((j : ℕ) → j < 64 → getD t j 0 ≡ op (getD a (at + (i + j)) 0) (partner a (i + j)))
+      → Filled a b (at + i) (at + i + 64) (λ (x : ℕ). getD t (x - (at + i)) 0)
+      → Filled g b (at + treatedFrom n (k + 1) up) (at + treatedTo n (k + 1) up) (met op partner at g)
+  met-more true keeps t k i here f room v p =
+      let e : i ≡ 64 * k = here in
+      filled-start
+      (filled-end (met-block op partner at n (keeps .upward refl) 64 t i (filled-start (filled-end f (omega (arith, e))) (omega arith)) (omega (arith, e)) v p) (omega (arith, e)))
+      (omega arith)
+  met-more false keeps t k i here f room v p =
+      let e : i ≡ n - 64 * k - 64 = here in
+      filled-start (met-block-before op partner at n (keeps .downward refl) 64 t i f (omega (arith, e)) (omega arith) v p) (omega (arith, e))
+
+  -- s is block `count`, at i, and t the last, at j: both were made before either was stored
+  pub met-ends : (up : Bool) → Keeps up partner at n → {g a b e : List ℕ} (s t : List ℕ) (count i j : ℕ) → i ≡ blockAt n count up → j ≡ cond up (n - 64) 0
+      → Filled g a (at + treatedFrom n count up) (at + treatedTo n count up) (met op partner at g) → 64 * count + 64 ≤ n → n ≤ 64 * count + 128
+      → ((k : ℕ) → k < 64 → getD s k 0 ≡ op (getD a (at + (i + k)) 0) (partner a (i + k)))
+      → ((k : ℕ) → k < 64 → getD t k 0 ≡ op (getD a (at + (j + k)) 0) (partner a (j + k)))
+      → Filled a b (at + i) (at + i + 64) (λ (x : ℕ). getD s (x - (at + i)) 0)
+      → Filled b e (at + j) (at + j + 64) (λ (x : ℕ). getD t (x - (at + j)) 0)
+      → Filled g e at (at + n) (met op partner at g)
+  met-ends true keeps {g} {a} s t count i j here last f room near v w p q =
+      let x : i ≡ 64 * count = here in
+      let y : j ≡ n - 64 = last in
+      let wait = keeps .upward refl in
+      let done : Filled g a at (at + i) (met op partner at g) = filled-start (filled-end f (omega (arith, x))) (omega arith) in
+      met-last op partner at g 64 t j (at + j) (met-late op partner at n wait 64 t j done (le-refl at) (omega arith) (omega (arith, x, y)) (omega (arith, y)) w) q refl
+      (met-block op partner at n wait 64 s i done (omega (arith, x)) v p) (omega (arith, x, y)) (omega (arith, x)) (omega (arith, y))
+  met-ends false keeps {g} {a} s t count i j here last f room near v w p q =
+      let x : i ≡ n - 64 * count - 64 = here in
+      let y : j ≡ 0 = last in
+      let stay = keeps .downward refl in
+      met-first op partner at g 64 t j (at + j) (met-early op partner at n stay 64 t j f (le-refl (at + n)) (omega (arith, x, y)) w) q refl
+      (met-block-before op partner at n stay 64 s i f (omega (arith, x)) (omega arith) v p) (omega arith) (omega (arith, x)) (omega arith) y

@@ -1,5 +1,5 @@
 -- The laws of passes/specs.
---   Blocks    a pass by blocks or byte by byte, in place, whatever its partners are
---   Ways      whether a pass can go, one way or the other
+--   Blocks    a pass by blocks, in place, whatever its partners are
+--   Fades     what meets 0
 pub mod Blocks
-pub mod Ways
+pub mod Fades

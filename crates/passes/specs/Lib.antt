@@ -1,3 +1,3 @@
 -- What the contracts of the crate `passes` cite.
---   Passes    a byte and its partner, and what a pass leaves
+--   Passes    a pixel and its partner, and what a pass leaves
 pub mod Passes

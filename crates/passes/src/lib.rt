@@ -1,25 +1,19 @@
-// Passes over bytes: each byte meets another at its place in a second row, and becomes the darker or the brighter of the two. This is where
-// the time of an opening goes, so the loops are flat, go by blocks, and compile to vector instructions. Every call is total: it tests once what its loops
-// rely on, and changes nothing where that is not so.
-mod bent;
+// Passes over pixels: each meets another at its place in a second row, and becomes the darker or the brighter of the two. This is where the time of an opening
+// goes, so the loops are flat, go by blocks, and compile to vector instructions. Every call is total: it tests once what its loops rely on, and changes nothing
+// where that is not so. Which of the two, which way, and whether lines bend are parameters: no loop asks them more than once a block.
+mod between;
 mod block;
-mod by;
 mod fill;
-mod into;
-mod reach;
-mod straight;
+mod pass;
 
-pub use bent::blacken_bent;
-pub use bent::brighten_bent;
-pub use bent::darken_bent;
-pub use by::brighten_by;
-pub use by::darken_by;
-pub use by::lay;
+// What is met, made 0, copied and claimed; marks and the numbers of holders are bytes.
+pub type Pixel = u8;
+
+pub use between::claim;
+pub use between::meet_by;
 pub use fill::blacken;
+pub use fill::blacken_bent;
 pub use fill::copy;
-pub use into::darken_bent_into;
-pub use into::darken_into;
-pub use into::raise;
-pub use into::raise_bent;
-pub use straight::brighten;
-pub use straight::darken;
+pub use fill::fade;
+pub use pass::meet;
+pub use pass::meet_bent;

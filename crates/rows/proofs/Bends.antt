@@ -1,5 +1,4 @@
 -- Which columns of a row bend: the rest of the division that rounds, carried from column to column.
---   r-by                              r by quotient and rest
 --   rest-start, rest-stay, rest-step  the rest at column 0, and one column on
 --   over-fits, over-small             what e columns have over, past the rows that they make for sure
 --   small-product                     a product of an accepted size
@@ -7,15 +6,14 @@
 --   bends-more                        one mark more
 --   bends-front                       the marks alone, at the front of a longer list
 --   bends-none                        nothing over: no column bends
---   rise-step                         one column makes at most one row
---   marks-fit, marked-by              the marks of a pass have room, and are as many as it needs
+--   marks-fit, marked-by, marks-enough    the marks of a pass have room, and are as many as it needs
 -- Assumes nothing.
 use mathlib.Core.Path.{_≡_, sym, ap, _∙_, subst}
 use mathlib.Core.Bool.{Bool, cond}
 use mathlib.Core.List.{List, []}
 use mathlib.Core.Logic.{_⊎_, inl, inr, ⊎-elim}
 use Prim.Native.Nat.{ℕ, _+_, _-_, _*_, _/_, _%_, _≤_, _<_}
-use native.Mathlib.Nat.{eq-or-lt-of-le, add-mul, mul-add, mul-assoc, mul-comm, mul-le-mul, mul-le-mul-right, one-mul, div-add-mod', mod-lt, add-mul-div-right, div-eq-of-lt}
+use native.Mathlib.Nat.{eq-or-lt-of-le, add-mul, mul-add, mul-assoc, mul-comm, mul-le-mul, one-mul, div-add-mod', mod-lt, add-mul-div-right, div-eq-of-lt}
 use native.Mathlib.Omega.{arith}
 use lib.Dec.{eqb, ltb}
 use lib.ListN.{length, getD, set, take}
@@ -24,9 +22,9 @@ use borrow.Author.Tests.{lt-ltb, le-ltb}
 use Rattle.lists.proofs.Cases.{less-or-not}
 use Rattle.frame.specs.Lines as lines
 use Rattle.frame.specs.Lines.{r}
-use Rattle.rows.specs.Passes.{Bends, Rest, Marked}
+use Rattle.rows.specs.Slants.{Bends, Rest, Marked}
 
-pub r-by : (a b i n rest : ℕ) → n * (2 * a) + rest ≡ 2 * i * b + a → rest < 2 * a → r a b i ≡ n
+r-by : (a b i n rest : ℕ) → n * (2 * a) + rest ≡ 2 * i * b + a → rest < 2 * a → r a b i ≡ n
 unfolding lines.r
 r-by a b i n rest sum below =
     let e : rest + n * (2 * a) ≡ 2 * i * b + a = omega (arith, sum) in
@@ -108,13 +106,6 @@ bends-none a b e d n some rows nothing x h =
     ∙ ap (λ (t : Bool). r a b x + cond (eqb (cond t 0 1) 0) d (d + 1)) (lt-ltb _ (2 * a) (omega (arith, p .below)))
 
 -- k marks, none or one for each of n columns
-pub rise-step : (b a : ℕ) → 1 ≤ a → b ≤ a → b / a ≤ 1
-rise-step b a some slow =
-    ⊎-elim
-    (λ q. omega arith)
-    (λ q. let two : 2 * a ≤ b / a * a = mul-le-mul-right a q in absurd (omega (arith, div-add-mod' b a)))
-    (less-or-not (b / a) 2)
-
 pub marks-fit : {k n m : ℕ} → (k ≡ 0) ⊎ (k ≡ n) → n ≤ m → k ≤ m
 marks-fit marks room = ⊎-elim (λ none. omega arith) (λ all. omega arith) marks
 
@@ -122,3 +113,6 @@ pub marked-by : (n k : ℕ) (m : List ℕ) → (k ≡ 0) ⊎ (k ≡ n) → n ≤
 marked-by n k m marks room =
     let held = length-take-le k m (marks-fit marks room) in
     ⊎-elim (λ none. inl (held ∙ none)) (λ all. inr (omega (arith, held, all))) marks
+
+pub marks-enough : {n : ℕ} (m : List ℕ) → Marked n m → 1 ≤ length m → n ≤ length m
+marks-enough m marked some = ⊎-elim (λ none. absurd (omega (arith, none, some))) (λ all. all) marked

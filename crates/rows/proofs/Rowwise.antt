@@ -1,37 +1,55 @@
 -- Rows treated one after the other, in any order of the rows.
---   Parted st N M                  M rows of N bytes, each at its start, do not meet
---   parted-rows                    rows that stand S apart
+--   RowsApart st N M                  M rows of N bytes, each at its start, do not meet
+--   parted-rows, parted-order      rows that stand S apart, as they come or in the order of a pass
+--   row-less, row-twice            that order has no other rows, and taken twice is as they come
 --   rows-none, rows-more, rows-before, rows-join    no row; one more, behind or before; two stretches of rows
 --   rows-still                     rows that have their pixels already
 --   rows-end, rows-start, rows-as  ends and pixels known by an equation
 --   row-kept                       a row that is not among them
 --   row-room                       a row is in the buffer
 -- Assumes nothing.
-use mathlib.Core.Path.{_≡_, refl, sym, _∙_, subst}
+use mathlib.Core.Path.{_≡_, refl, sym, ap, _∙_, subst}
+use mathlib.Core.Bool.{Bool, true, false}
 use mathlib.Core.List.{List}
 use mathlib.Core.Logic.{_⊎_, inl, inr, ⊎-elim}
 use Prim.Native.Nat.{ℕ, _+_, _-_, _*_, _≤_, _<_}
 use native.Mathlib.Nat.{eq-or-lt-of-le, mul-le-mul-right, add-mul, one-mul, le-refl}
 use native.Mathlib.Omega.{arith}
-use lib.ListN.{length, getD}
+use lib.ListN.{getD}
 use Rattle.lists.specs.Stores.{Filled}
 use Rattle.lists.proofs.Cases.{less-or-not}
-use Rattle.rows.specs.Rows.{rowsOf, RowsAre}
+use Rattle.rows.specs.Rows as rows
+use Rattle.rows.specs.Rows.{rowAt, rowsBy, RowsAre}
 
-abbrev pub Parted : (ℕ → ℕ) → ℕ → ℕ → Type 0
-Parted st N M = (i j : ℕ) → i < M → j < M → (i ≡ j → ⊥) → (st i + N ≤ st j) ⊎ (st j + N ≤ st i)
+abbrev pub RowsApart : (ℕ → ℕ) → ℕ → ℕ → Type 0
+RowsApart st N M = (i j : ℕ) → i < M → j < M → (i ≡ j → ⊥) → (st i + N ≤ st j) ⊎ (st j + N ≤ st i)
 
 row-below : (S N i j : ℕ) → N ≤ S → i < j → i * S + N ≤ j * S
 row-below S N i j wide h =
     let p : (i + 1) * S ≤ j * S = mul-le-mul-right S (omega arith) in
     omega (arith, add-mul i 1 S, one-mul S)
 
-pub parted-rows : (S N M : ℕ) → N ≤ S → Parted (rowsOf S) N M
+pub parted-rows : (S N M : ℕ) → N ≤ S → RowsApart (rowsBy S) N M
 parted-rows S N M wide i j p q apart =
     ⊎-elim
     (λ below. inl (row-below S N i j wide below))
     (λ not′. inr (row-below S N j i wide (omega (arith, apart))))
     (less-or-not i j)
+
+pub row-less : (forth : Bool) (M t : ℕ) → t < M → rowAt forth M t < M
+unfolding rows.rowAt
+row-less true M t l = l
+row-less false M t l = omega arith
+
+pub row-twice : (forth : Bool) (M t : ℕ) → t < M → rowAt forth M (rowAt forth M t) ≡ t
+unfolding rows.rowAt
+row-twice true M t l = refl
+row-twice false M t l = omega arith
+
+pub parted-order : (forth : Bool) (S N M : ℕ) → N ≤ S → RowsApart (λ (t : ℕ). rowAt forth M t * S) N M
+parted-order forth S N M wide i j p q apart =
+    parted-rows S N M wide (rowAt forth M i) (rowAt forth M j) (row-less forth M i p) (row-less forth M j q)
+    (λ same. apart (sym (row-twice forth M i p) ∙ ap (rowAt forth M) same ∙ row-twice forth M j q))
 
 pub rows-none : (st : ℕ → ℕ) (N lo : ℕ) (F : ℕ → ℕ → ℕ) (g : List ℕ) → RowsAre st N lo lo F g g
 rows-none st N lo F g = record { same = refl; within = λ i k l h n. absurd (omega arith); other = λ x h. refl }
@@ -50,7 +68,7 @@ pub rows-as : {st : ℕ → ℕ} {N lo hi : ℕ} {F : ℕ → ℕ → ℕ} {b a 
     → ((i k : ℕ) → lo ≤ i → i < hi → k < N → F i k ≡ G i k) → RowsAre st N lo hi G b a
 rows-as r G e = record { same = r .same; within = λ i k l h n. r .within i k l h n ∙ e i k l h n; other = r .other }
 
-module _ {st : ℕ → ℕ} {N M : ℕ} (parted : Parted st N M) where
+module _ {st : ℕ → ℕ} {N M : ℕ} (parted : RowsApart st N M) where
   pub row-kept : {lo hi : ℕ} {F : ℕ → ℕ → ℕ} {b a : List ℕ} → RowsAre st N lo hi F b a → hi ≤ M → (i k : ℕ) → i < M → k < N → (i < lo) ⊎ (hi ≤ i)
       → getD a (st i + k) 0 ≡ getD b (st i + k) 0
   row-kept r top i k in′ h side =

@@ -18,7 +18,8 @@ use Rattle.frame.specs.Sweep as sweep
 use Rattle.frame.specs.Sweep.{sweepOf, Accepted}
 use Rattle.frame.proofs.Shapes.{framed, sweep-sane}
 use Rattle.rows.specs.Rows.{opensShallow, OpensShallow}
-use Rattle.rows.specs.Passes.{Slanted}
+use Rattle.rows.specs.Slants.{Slanted}
+use Rattle.rows.proofs.Acceptance.{can-open-all}
 
 pub shallow-kept : (sh : Shape) (d : Direction) (L : ℕ) (g m : List ℕ) → opensShallow sh d L g (length m) ≡ false → OpensShallow sh d L g g m m
 shallow-kept sh d L g m no′ = record { same = refl; done = λ yes′. absurd (true≢false (sym yes′ ∙ no′)); none = λ e. (refl, refl) }
@@ -36,4 +37,4 @@ module _ {sh : Shape} {d : Direction} (a : Accepted sh d) (flat : shallow d ≡ 
   shallow-marks n room = rw flat room
 
   pub shallow-all : (L : ℕ) (g : List ℕ) (n : ℕ) → 1 ≤ L → needed sh ≤ length g → sh .width ≤ n → opensShallow sh d L g n ≡ true
-  shallow-all L g n some room marks = rw (a .frame, a .direction, flat, le-leb 1 L some, le-leb (needed sh) (length g) room, le-leb (sh .width) n marks)
+  shallow-all L g n some room marks = rw (can-open-all a L (length g) some room, flat, le-leb (sh .width) n marks)

@@ -1,79 +1,52 @@
 // A byte for each line, where lines go abreast down the rows: the level that the line has come to on its way from row to row. Levels stand in the order of
 // the lines, so a row's are side by side, and no line's level moves as the line moves aside.
-use crate::pass::aside;
+use crate::Pixel;
+use crate::order::row_of;
 use frame::Sweep;
-ghost use mathlib.Core.Path.{_≡_};
-ghost use Prim.Native.Nat.{ℕ, _+_, _-_, _*_, _≤_, _<_, min, max};
+use frame::shift_at;
+ghost use Prim.Native.Nat.{ℕ, _+_, _-_, _*_, _≤_, _<_};
 ghost use lib.ListN.{length, getD};
 ghost use Rattle.lists.specs.Stores.{Filled};
-ghost use Rattle.frame.specs.Sweep.{shift, lines, Sane};
-ghost use Rattle.rows.specs.Passes.{Down, Held, Aside, pixelOf};
+ghost use Rattle.passes.specs.Passes.{op};
+ghost use Rattle.frame.specs.Sweep.{shift, lines};
+ghost use Rattle.rows.specs.Down.{Down, LevelsAre, pixelOf, Takes};
 
-pub(crate) fn clear_levels(levels: &mut [u8], s: Sweep)
-    requires { ⌜ lines s ≤ length (now levels) ⌝ }
-    ensures { λ _. ⌜ Held s (λ (u : ℕ). 0) (now (levels .exit)) ⌝ }
+// Each line's level meets the line's pixel in row i, 0 where it has none.
+fn meet_levels(buf: &[Pixel], s: Sweep, i: usize, levels: &mut [Pixel], darker: bool)
+    requires { ⌜ Down s (now buf) × (i < s .majors) × (lines s ≤ length (now levels)) ⌝ }
+    ensures { λ _. ⌜ LevelsAre s (λ (u : ℕ). op darker (getD (now (levels .entry)) u 0) (pixelOf s (now (buf .entry)) i u)) (now (levels .exit)) ⌝ }
 {
-    passes::blacken(levels, 0, s.minors + s.top);
-}
-
-// Each line's level becomes the brighter of itself and the line's pixel in row i, if it has one there.
-pub(crate) fn brighten_levels(src: &[u8], s: Sweep, i: usize, levels: &mut [u8])
-    requires { ⌜ Down s (now src) × (i < s .majors) × (lines s ≤ length (now levels)) ⌝ }
-    ensures { λ _. ⌜ Held s (λ (u : ℕ). max (getD (now (levels .entry)) u 0) (pixelOf s (now (src .entry)) i u)) (now (levels .exit)) ⌝ }
-{
-    passes::brighten_by(src, i * s.major, s.minors, levels, aside(s, i));
+    let n = s.minors;
+    let a = shift_at(s, i);
+    passes::fade(levels, 0, a, darker);
+    passes::meet_by(buf, i * s.major, n, levels, a, darker);
+    passes::fade(levels, a + n, s.top - a, darker);
 }
 
 // Each line's level becomes its pixel in row i.
-pub(crate) fn start_levels(src: &[u8], s: Sweep, i: usize, levels: &mut [u8])
-    requires { ⌜ Down s (now src) × (i < s .majors) × (lines s ≤ length (now levels)) ⌝ }
-    ensures { λ _. ⌜ Held s (pixelOf s (now (src .entry)) i) (now (levels .exit)) ⌝ }
+pub(crate) fn start_levels(buf: &[Pixel], s: Sweep, i: usize, levels: &mut [Pixel])
+    requires { ⌜ Down s (now buf) × (i < s .majors) × (lines s ≤ length (now levels)) ⌝ }
+    ensures { λ _. ⌜ LevelsAre s (pixelOf s (now (buf .entry)) i) (now (levels .exit)) ⌝ }
 {
-    clear_levels(levels, s);
-    passes::lay(src, i * s.major, s.minors, levels, aside(s, i));
+    passes::blacken(levels, 0, s.minors + s.top);
+    meet_levels(buf, s, i, levels, false);
 }
 
-// Lines that are in the row `before`, but not in row i, get the level 0, as those that are in neither have.
-fn leave(levels: &mut [u8], s: Sweep, before: usize, i: usize)
-    requires { ⌜ Sane s × (before < s .majors) × (i < s .majors) × (lines s ≤ length (now levels)) × Aside s before (now levels) ⌝ }
-    ensures { λ _. ⌜ ((u : ℕ) → shift s i ≤ u → u < shift s i + s .minors → getD (now (levels .exit)) u 0 ≡ getD (now (levels .entry)) u 0) × Aside s i (now (levels .exit)) ⌝ }
+// The row that comes after t others, if there are so many, is met too.
+pub(crate) fn take_row(buf: &[Pixel], s: Sweep, t: usize, levels: &mut [Pixel], darker: bool)
+    requires { ⌜ Down s (now buf) × (lines s ≤ length (now levels)) ⌝ }
+    ensures { λ _. ⌜ Takes s darker t (now (buf .entry)) (now (levels .entry)) (now (levels .exit)) ⌝ }
 {
-    let a = aside(s, before);
-    let b = aside(s, i);
-    if a < b {
-        passes::blacken(levels, a, b - a);
+    if s.majors <= t {
         return;
     }
-    passes::blacken(levels, b + s.minors, a - b);
+    meet_levels(buf, s, row_of(s.majors, t, darker), levels, darker);
 }
 
-// Each line's level becomes the darker of itself and the line's pixel in row i, 0 where it has none. The row `before` came before it.
-pub(crate) fn darken_levels(src: &[u8], s: Sweep, before: usize, i: usize, levels: &mut [u8])
-    requires { ⌜ Down s (now src) × (before < s .majors) × (i < s .majors) × (lines s ≤ length (now levels)) × Aside s before (now levels) ⌝ }
-    ensures { λ _. ⌜ Held s (λ (u : ℕ). min (getD (now (levels .entry)) u 0) (pixelOf s (now (src .entry)) i u)) (now (levels .exit)) ⌝ }
+// Each pixel of row i meets its line's level.
+pub(crate) fn meet_row_by(levels: &[Pixel], s: Sweep, i: usize, buf: &mut [Pixel], darker: bool)
+    requires { ⌜ Down s (now buf) × (i < s .majors) × (lines s ≤ length (now levels)) ⌝ }
+    ensures { λ _. ⌜ Filled (now (buf .entry)) (now (buf .exit)) (i * s .major) (i * s .major + s .minors) (λ (x : ℕ). op darker (getD (now (buf .entry)) x 0) (getD (now (levels .entry)) (shift s i + (x - i * s .major)) 0)) ⌝ }
 {
-    leave(levels, s, before, i);
-    passes::darken_by(src, i * s.major, s.minors, levels, aside(s, i));
-}
-
-// Each pixel of row i becomes its line's level.
-pub(crate) fn lay_row(levels: &[u8], s: Sweep, i: usize, dst: &mut [u8])
-    requires { ⌜ Down s (now dst) × (i < s .majors) × (lines s ≤ length (now levels)) ⌝ }
-    ensures { λ _. ⌜ Filled (now (dst .entry)) (now (dst .exit)) (i * s .major) (i * s .major + s .minors) (λ (x : ℕ). getD (now (levels .entry)) (shift s i + (x - i * s .major)) 0) ⌝ }
-{
-    passes::lay(levels, aside(s, i), s.minors, dst, i * s.major);
-}
-
-pub(crate) fn darken_row(levels: &[u8], s: Sweep, i: usize, dst: &mut [u8])
-    requires { ⌜ Down s (now dst) × (i < s .majors) × (lines s ≤ length (now levels)) ⌝ }
-    ensures { λ _. ⌜ Filled (now (dst .entry)) (now (dst .exit)) (i * s .major) (i * s .major + s .minors) (λ (x : ℕ). min (getD (now (dst .entry)) x 0) (getD (now (levels .entry)) (shift s i + (x - i * s .major)) 0)) ⌝ }
-{
-    passes::darken_by(levels, aside(s, i), s.minors, dst, i * s.major);
-}
-
-pub(crate) fn brighten_row(levels: &[u8], s: Sweep, i: usize, dst: &mut [u8])
-    requires { ⌜ Down s (now dst) × (i < s .majors) × (lines s ≤ length (now levels)) ⌝ }
-    ensures { λ _. ⌜ Filled (now (dst .entry)) (now (dst .exit)) (i * s .major) (i * s .major + s .minors) (λ (x : ℕ). max (getD (now (dst .entry)) x 0) (getD (now (levels .entry)) (shift s i + (x - i * s .major)) 0)) ⌝ }
-{
-    passes::brighten_by(levels, aside(s, i), s.minors, dst, i * s.major);
+    passes::meet_by(levels, shift_at(s, i), s.minors, buf, i * s.major, darker);
 }

@@ -1,18 +1,17 @@
-// The opening of a frame in one direction row by row, in place or beside another frame that it raises: every pass is a flat loop over neighbouring bytes. No
-// line is gathered, and nothing is laid aside but, along the rows, a row of marks, and down them, where a frame is raised, a byte for each line.
-mod beside;
-mod brightest;
-mod darkest;
-mod first;
+// The opening of a frame in one direction row by row, in place: every pass is a flat loop over neighbouring pixels. No line is gathered, and nothing is laid aside
+// but a pixel for each line where lines go down the rows, and a row of marks where they go along them.
+mod block;
+mod clear;
+mod down;
 mod levels;
 mod marks;
-mod pass;
-mod raise;
+mod order;
 mod row;
+mod rules;
 mod shallow;
 mod slant;
-mod steep;
 
-pub use beside::raise_frame;
+pub type Pixel = u8;
+
+pub use down::open_down;
 pub use shallow::open_shallow;
-pub use steep::open_steep;

@@ -1,207 +1,113 @@
-// A pass in a shallow direction, row by row. Rows are counted in the order in which the lines cross them, from the frame's last one on where `up`: what a
-// row asks for then stands in itself or in rows that come after it, and is as it was. The columns from `light` on are dark before the pass, and are
-// not looked at: after an erosion so are the e columns before them, and after a dilation those from light + e on.
+// A pass in a shallow direction, row by row. Rows are counted in the order in which the lines cross them, from the first on where `forth`, else from the last
+// back: what a row asks for then stands in itself or in rows that come after it, and is as it was. The pixels from column `here` on meet those of their lines
+// from column `there` on, and one of the two is 0: in an erosion pixels meet those further on, in a dilation those further back. What has no partner meets 0.
+use crate::Pixel;
+use crate::order::row_of;
 use frame::Sweep;
 ghost use mathlib.Core.Path.{_≡_};
-ghost use mathlib.Core.List.{[]};
+ghost use mathlib.Core.Bool.{true};
 ghost use Prim.Native.Nat.{ℕ, _+_, _-_, _≤_, _<_};
 ghost use lib.ListN.{length};
 ghost use Rattle.lists.specs.Stores.{Filled};
 ghost use Rattle.frame.specs.Sweep.{Sane};
+ghost use Rattle.passes.specs.Passes.{op, met};
 ghost use Rattle.rows.specs.Rows.{RowsAre};
-ghost use Rattle.rows.specs.Passes.{Slanted, Dark, DarkPast, Marked, rowStart, eroded, dilated};
+ghost use Rattle.rows.specs.Slants.{Slanted, Dark, DarkPast, Marked, rowStart, nearOnly, pixelBy, metAt};
 
 // Where row t starts.
-pub(crate) fn start(s: Sweep, up: bool, t: usize) -> usize
+fn start(s: Sweep, forth: bool, t: usize) -> usize
     requires { ⌜ Sane s × (t < s .minors) ⌝ }
-    ensures { λ n. ⌜ n ≡ rowStart s up t ⌝ }
+    ensures { λ n. ⌜ n ≡ rowStart s forth t ⌝ }
 {
-    let rows = s.minors;
-    let stride = s.minor;
-    if up {
-        (rows - 1 - t) * stride
-    } else {
-        t * stride
-    }
+    row_of(s.minors, t, forth) * s.minor
 }
 
-// Each pixel of row t becomes the darker of itself and its line's pixel e columns on, which stands `step` rows on, or one more where it is
-// marked.
-fn erode_bent(
-    buf: &mut [u8],
-    bends: &[u8],
-    s: Sweep,
-    up: bool,
-    t: usize,
-    light: usize,
-    e: usize,
-    step: usize,
-)
-    requires { ⌜ Slanted s (now buf) × (t < s .minors) × (e ≤ light) × (light ≤ s .majors) × DarkPast s up t light (now buf) × (light ≤ length (now bends) + e) ⌝ }
-    ensures { λ _. ⌜ Filled (now (buf .entry)) (now (buf .exit)) (rowStart s up t) (rowStart s up t + s .majors) (λ (x : ℕ). eroded s up (now (bends .entry)) e step (now (buf .entry)) t (x - rowStart s up t)) ⌝ }
+// The n pixels from `at` on meet those from `near` on, which stand in the frame's last row: the partner of a marked one would stand one row further.
+fn meet_last(buf: &mut [Pixel], bends: &[u8], at: usize, near: usize, n: usize, darker: bool)
+    requires { ⌜ (at + n ≤ length (now buf)) × (near + n ≤ length (now buf)) × (1 ≤ length (now bends)) × (n ≤ length (now bends)) ⌝ }
+    ensures { λ _. ⌜ Filled (now (buf .entry)) (now (buf .exit)) at (at + n) (met (op darker) (nearOnly (now (bends .entry)) near) at (now (buf .entry))) ⌝ }
 {
-    let left = s.minors - t;
-    let at = start(s, up, t);
-    if left <= step {
-        passes::blacken(buf, at, light);
-        return;
-    }
-    let n = light - e;
-    let near = start(s, up, t + step) + e;
-    if left - step < 2 {
-        passes::darken_bent(buf, bends, at, near, at, n);
+    passes::meet_bent(buf, bends, at, near, at, n, darker);
+    if darker {
         passes::blacken_bent(buf, bends, at, n);
-        passes::blacken(buf, at + n, e);
-        return;
     }
-    let far = start(s, up, t + (step + 1)) + e;
-    passes::darken_bent(buf, bends, at, near, far, n);
-    passes::blacken(buf, at + n, e);
 }
 
-// The same in a pass in which no line bends, which has no marks.
-fn erode_straight(buf: &mut [u8], s: Sweep, up: bool, t: usize, light: usize, e: usize, step: usize)
-    requires { ⌜ Slanted s (now buf) × (t < s .minors) × (e ≤ light) × (light ≤ s .majors) × DarkPast s up t light (now buf) ⌝ }
-    ensures { λ _. ⌜ Filled (now (buf .entry)) (now (buf .exit)) (rowStart s up t) (rowStart s up t + s .majors) (λ (x : ℕ). eroded s up [] e step (now (buf .entry)) t (x - rowStart s up t)) ⌝ }
-{
-    let left = s.minors - t;
-    let at = start(s, up, t);
-    if left <= step {
-        passes::blacken(buf, at, light);
-        return;
-    }
-    let n = light - e;
-    let near = start(s, up, t + step) + e;
-    passes::darken(buf, at, near, n);
-    passes::blacken(buf, at + n, e);
-}
-
-fn erode_slant(
-    buf: &mut [u8],
+// The n pixels of row t from column `here` on meet those of their lines, which stand `step` rows on, or one more where they are marked. No marks at all say that no
+// line bends.
+fn meet_partners(
+    buf: &mut [Pixel],
     bends: &[u8],
     s: Sweep,
-    up: bool,
+    forth: bool,
     t: usize,
-    light: usize,
-    e: usize,
+    here: usize,
+    there: usize,
+    n: usize,
     step: usize,
+    darker: bool,
 )
-    requires { ⌜ Slanted s (now buf) × (t < s .minors) × (e ≤ light) × (light ≤ s .majors) × DarkPast s up t light (now buf) × Marked (light - e) (now bends) ⌝ }
-    ensures { λ _. ⌜ Filled (now (buf .entry)) (now (buf .exit)) (rowStart s up t) (rowStart s up t + s .majors) (λ (x : ℕ). eroded s up (now (bends .entry)) e step (now (buf .entry)) t (x - rowStart s up t)) ⌝ }
+    requires { ⌜ Slanted s (now buf) × (t < s .minors) × (here + n ≤ s .majors) × (there + n ≤ s .majors) × Marked n (now bends) ⌝ }
+    ensures { λ _. ⌜ Filled (now (buf .entry)) (now (buf .exit)) (rowStart s forth t + here) (rowStart s forth t + here + n) (met (op darker) (pixelBy s forth (now (bends .entry)) t there step) (rowStart s forth t + here) (now (buf .entry))) ⌝ }
 {
+    let left = s.minors - t;
+    let at = start(s, forth, t) + here;
+    if left <= step {
+        passes::fade(buf, at, n, darker);
+        return;
+    }
+    let near = start(s, forth, t + step) + there;
     if bends.len() < 1 {
-        erode_straight(buf, s, up, t, light, e, step);
+        passes::meet(buf, at, near, n, darker);
         return;
     }
-    erode_bent(buf, bends, s, up, t, light, e, step);
-}
-
-// Each pixel of row t becomes the brighter of itself and its line's pixel e columns before, where there is one.
-fn dilate_bent(
-    buf: &mut [u8],
-    bends: &[u8],
-    s: Sweep,
-    up: bool,
-    t: usize,
-    light: usize,
-    e: usize,
-    step: usize,
-)
-    requires { ⌜ Slanted s (now buf) × (t < s .minors) × (light + e ≤ s .majors) × DarkPast s up t light (now buf) × (light ≤ length (now bends)) ⌝ }
-    ensures { λ _. ⌜ Filled (now (buf .entry)) (now (buf .exit)) (rowStart s up t) (rowStart s up t + s .majors) (λ (x : ℕ). dilated s up (now (bends .entry)) e step (now (buf .entry)) t (x - rowStart s up t)) ⌝ }
-{
-    let left = s.minors - t;
-    if left <= step {
-        return;
-    }
-    let at = start(s, up, t) + e;
-    let near = start(s, up, t + step);
     if left - step < 2 {
-        passes::brighten_bent(buf, bends, at, near, at, light);
+        meet_last(buf, bends, at, near, n, darker);
         return;
     }
-    let far = start(s, up, t + (step + 1));
-    passes::brighten_bent(buf, bends, at, near, far, light);
+    let far = start(s, forth, t + (step + 1)) + there;
+    passes::meet_bent(buf, bends, at, near, far, n, darker);
 }
 
-// The same in a pass in which no line bends, which has no marks.
-fn dilate_straight(
-    buf: &mut [u8],
-    s: Sweep,
-    up: bool,
-    t: usize,
-    light: usize,
-    e: usize,
-    step: usize,
-)
-    requires { ⌜ Slanted s (now buf) × (t < s .minors) × (light + e ≤ s .majors) × DarkPast s up t light (now buf) ⌝ }
-    ensures { λ _. ⌜ Filled (now (buf .entry)) (now (buf .exit)) (rowStart s up t) (rowStart s up t + s .majors) (λ (x : ℕ). dilated s up [] e step (now (buf .entry)) t (x - rowStart s up t)) ⌝ }
-{
-    let left = s.minors - t;
-    if left <= step {
-        return;
-    }
-    let at = start(s, up, t) + e;
-    let near = start(s, up, t + step);
-    passes::brighten(buf, at, near, light);
-}
-
-fn dilate_slant(
-    buf: &mut [u8],
+// Row t. The columns from `light` on are dark: nothing is looked for there, and an erosion makes those dark whose partners stand there.
+fn slant(
+    buf: &mut [Pixel],
     bends: &[u8],
     s: Sweep,
-    up: bool,
+    forth: bool,
     t: usize,
     light: usize,
-    e: usize,
+    here: usize,
+    there: usize,
     step: usize,
+    darker: bool,
 )
-    requires { ⌜ Slanted s (now buf) × (t < s .minors) × (light + e ≤ s .majors) × DarkPast s up t light (now buf) × Marked light (now bends) ⌝ }
-    ensures { λ _. ⌜ Filled (now (buf .entry)) (now (buf .exit)) (rowStart s up t) (rowStart s up t + s .majors) (λ (x : ℕ). dilated s up (now (bends .entry)) e step (now (buf .entry)) t (x - rowStart s up t)) ⌝ }
+    requires { ⌜ Slanted s (now buf) × (t < s .minors) × (there ≤ light) × (here + light ≤ s .majors) × (darker ≡ true → here ≡ 0) × DarkPast s forth t light (now buf) × Marked (light - there) (now bends) ⌝ }
+    ensures { λ _. ⌜ Filled (now (buf .entry)) (now (buf .exit)) (rowStart s forth t) (rowStart s forth t + s .majors) (λ (x : ℕ). metAt darker s forth (now (bends .entry)) here there step (now (buf .entry)) t (x - rowStart s forth t)) ⌝ }
 {
-    if bends.len() < 1 {
-        dilate_straight(buf, s, up, t, light, e, step);
-        return;
-    }
-    dilate_bent(buf, bends, s, up, t, light, e, step);
+    let n = light - there;
+    meet_partners(buf, bends, s, forth, t, here, there, n, step, darker);
+    passes::fade(buf, start(s, forth, t) + (here + n), there, darker);
 }
 
-pub(crate) fn erode_slants(
-    buf: &mut [u8],
+pub(crate) fn slants(
+    buf: &mut [Pixel],
     bends: &[u8],
     s: Sweep,
-    up: bool,
+    forth: bool,
     light: usize,
-    e: usize,
+    here: usize,
+    there: usize,
     step: usize,
+    darker: bool,
 )
-    requires { ⌜ Slanted s (now buf) × (e ≤ light) × (light ≤ s .majors) × Dark s light (now buf) × Marked (light - e) (now bends) ⌝ }
-    ensures { λ _. ⌜ RowsAre (rowStart s up) (s .majors) 0 (s .minors) (eroded s up (now (bends .entry)) e step (now (buf .entry))) (now (buf .entry)) (now (buf .exit)) ⌝ }
+    requires { ⌜ Slanted s (now buf) × (there ≤ light) × (here + light ≤ s .majors) × (darker ≡ true → here ≡ 0) × Dark s light (now buf) × Marked (light - there) (now bends) ⌝ }
+    ensures { λ _. ⌜ RowsAre (rowStart s forth) (s .majors) 0 (s .minors) (metAt darker s forth (now (bends .entry)) here there step (now (buf .entry))) (now (buf .entry)) (now (buf .exit)) ⌝ }
 {
     let rows = s.minors;
     let mut t = 0;
     while t < rows {
-        erode_slant(buf, bends, s, up, t, light, e, step);
-        t += 1;
-    }
-}
-
-pub(crate) fn dilate_slants(
-    buf: &mut [u8],
-    bends: &[u8],
-    s: Sweep,
-    up: bool,
-    light: usize,
-    e: usize,
-    step: usize,
-)
-    requires { ⌜ Slanted s (now buf) × (light + e ≤ s .majors) × Dark s light (now buf) × Marked light (now bends) ⌝ }
-    ensures { λ _. ⌜ RowsAre (rowStart s up) (s .majors) 0 (s .minors) (dilated s up (now (bends .entry)) e step (now (buf .entry))) (now (buf .entry)) (now (buf .exit)) ⌝ }
-{
-    let rows = s.minors;
-    let mut t = 0;
-    while t < rows {
-        dilate_slant(buf, bends, s, up, t, light, e, step);
+        slant(buf, bends, s, forth, t, light, here, there, step, darker);
         t += 1;
     }
 }

@@ -21,11 +21,11 @@ use Rattle.answer.proofs.Rules.{kept, outside-not}
 use Rattle.frame.specs.declared.direction.Direction.{Direction}
 use Rattle.frame.specs.declared.shape.Shape.{Shape}
 use Rattle.frame.specs.Direction.{isDirection}
-use Rattle.frame.specs.Shape.{isFrame, needed}
+use Rattle.frame.specs.Shape.{isFrame, needed, scratchFor}
 use Rattle.bridge.specs.Sums.{sumFor}
 use Rattle.sizes.specs.Sums.{lineSums}
 use Rattle.sizes.specs.Line.{lineRules}
-use Rattle.sizes.specs.Frame.{scratchFor, frameRules}
+use Rattle.sizes.specs.Frame.{frameRules}
 use Rattle.sizes.specs.Steps.{zeros, Adds, Whole}
 use Rattle.sizes.proofs.Bins.{sums-length}
 

@@ -1,25 +1,19 @@
 -- A frame's lines, one after the other.
---   first-is-line, count-is-lines                   the first line of an accepted frame, and how many there are
---   first-fits, first-near, sum-fits, count-most, number-line    the numbers of its lines, at the machine's edge
+--   count-is-lines                                  how many lines an accepted frame has
 --   gathered-line                                   gathering a line that the frame has is not refused
 --   line-short, line-dim                            a line is no longer than a side, and no brighter than the frame
 --   front-part, front-room                          a line at the front of an array, as a part of it
 --   Summing                                         where the adding of the lines stands; summing-start, -more, -modest, -end
 --   frame-total                                     bins and rest of a frame together are the total of its pixels
 -- Assumes nothing.
-use mathlib.Core.Path.{_≡_, refl, sym, ap, subst, _∙_}
-use mathlib.Core.Bool.{Bool, true, false, true≢false}
+use mathlib.Core.Path.{_≡_, refl, sym, ap, _∙_}
+use mathlib.Core.Bool.{false}
 use mathlib.Core.List.{List, [], _∷_, map}
-use Prim.Native.Nat.{ℕ, zero, suc, _+_, _-_, _*_, _≤_, _<_, _^_, zero-le, max}
+use Prim.Native.Nat.{ℕ, zero, suc, _+_, _-_, _≤_, _<_, _^_, zero-le, max}
 use native.Mathlib.Omega.{arith}
-use lib.Dec.{ltb}
-use lib.IntN.{ℤ, pos, negsuc, natAbs, subℕ, _+ℤ_}
+use lib.IntN.{ℤ, pos, _+ℤ_}
 use lib.ListN.{length, getD, take, drop, length-map, length-append}
 use lib.Seq.{ext-getD, take-at}
-use mir.Syntax.{w64}
-use mir.Val.{SFits, toZ, ofZ}
-use mir.Facts.{toZ-ofZ}
-use borrow.Author.Tests.{lt-ltb}
 use Rattle.lists.specs.Tables.{each, table}
 use Rattle.lists.specs.Extremes.{total}
 use Rattle.lists.specs.Stores.{front}
@@ -33,15 +27,14 @@ use Rattle.answer.proofs.Rules.{after-done}
 use Rattle.frame.specs.declared.direction.Direction.{Direction}
 use Rattle.frame.specs.declared.lines.Lines.{Lines}
 use Rattle.frame.specs.declared.shape.Shape.{Shape}
-use Rattle.frame.specs.Shape.{needed}
-use Rattle.frame.specs.Lines.{Pixel, pixels, place, firstLine, lineCount, linesOf, light}
-use Rattle.frame.specs.Gathering.{Gathers}
-use Rattle.frame.specs.Sweep.{sweepOf, low, Accepted}
-use Rattle.frame.proofs.Shapes.{framed, sweep-sane, top-less, low-less}
-use Rattle.frame.proofs.Signs.{lowest-fits}
-use Rattle.frame.proofs.Pixels.{empty-none, first-is, count-is, pixels-most, among-line}
-use Rattle.frame.proofs.Calls.{accepted-call}
+use Rattle.frame.specs.Lines.{Pixel, pixels, noLine, place, firstLine, lineCount, linesOf, light}
+use Rattle.frame.specs.Sweep.{Accepted}
+use Rattle.frame.proofs.Shapes.{framed}
+use Rattle.frame.proofs.Firsts.{lines-accepted, count-most}
+use Rattle.frame.proofs.Pixels.{pixels-most, among-line}
 use Rattle.frame.proofs.Light.{lines-light}
+use Rattle.gathering.specs.Gathering.{Gathers}
+use Rattle.gathering.proofs.Calls.{gather-done}
 use Rattle.bridge.specs.Sums.{sumFor}
 use Rattle.sizes.specs.Sums.{lineSums, lineAt, frameSum, frameSums}
 use Rattle.sizes.specs.Steps.{zeros, Modest, Adds, Whole}
@@ -49,51 +42,9 @@ use Rattle.sizes.proofs.Bins.{sums-length, sums-total, sums-lines, sum-
 use Rattle.sizes.proofs.Lights.{entry-most}
 use Rattle.sizes.proofs.Calls.{zeros-length, zero-entry}
 
--- ---- the numbers of the lines
-
-pub sum-fits : (z : ℤ) (u : ℕ) → natAbs z ≤ longest → u ≤ 2 * longest → SFits w64 (z +ℤ pos u)
-sum-fits (pos n) u h k = record { sfits = omega arith }
-sum-fits (negsuc n) u h k = go (ltb u (suc n)) refl
-  where
-    go : (t : Bool) → ltb u (suc n) ≡ t → SFits w64 (subℕ u (suc n))
-    go true e = rw e (record { sfits = omega arith })
-    go false e = rw e (record { sfits = omega arith })
-
-near : (n : ℕ) → n ≤ longest → natAbs (subℕ 0 n) ≤ longest
-near zero h = zero-le
-near (suc n) h = rw (lt-ltb 0 (suc n) (omega arith)) (omega arith)
-
 module _ (sh : Shape) (d : Direction) (ok : Accepted sh d) where
-  low-most : low (sweepOf sh d) ≤ longest
-  low-most = omega (arith, low-less (sweepOf sh d) (sweep-sane ok))
-
-  lines-accepted : linesOf sh d ≡ record { first = firstLine sh d; count = lineCount sh d }
-  lines-accepted = rw (ok .frame, ok .direction)
-
-  pub first-is-line : {l : Lines} → l ≡ linesOf sh d → l .first ≡ firstLine sh d
-  first-is-line e = ap (λ (l : Lines). l .first) (e ∙ lines-accepted)
-
   pub count-is-lines : {l : Lines} → l ≡ linesOf sh d → l .count ≡ lineCount sh d
-  count-is-lines e = ap (λ (l : Lines). l .count) (e ∙ lines-accepted)
-
-  pub first-fits : SFits w64 (firstLine sh d)
-  first-fits = subst (SFits w64) (sym (first-is sh d)) (lowest-fits (low (sweepOf sh d)) low-most)
-
-  pub first-near : natAbs (firstLine sh d) ≤ longest
-  first-near = rw (first-is sh d) (near (low (sweepOf sh d)) low-most)
-
-  pub count-most : lineCount sh d ≤ 2 * longest
-  count-most =
-      let sane = sweep-sane ok in
-      omega (arith, count-is sh d, sane .minors, top-less (sweepOf sh d) sane)
-
-  -- a line's number, as it goes through its bits
-  pub number-line : {z k : ℤ} (u : ℕ) → z ≡ firstLine sh d → k ≡ toZ w64 (ofZ w64 z) +ℤ pos u → u < lineCount sh d
-      → toZ w64 (ofZ w64 k) ≡ firstLine sh d +ℤ pos u
-  number-line {z} {k} u e q h =
-      let first : toZ w64 (ofZ w64 z) ≡ firstLine sh d = ap (λ (z : ℤ). toZ w64 (ofZ w64 z)) e ∙ toZ-ofZ first-fits in
-      let number : k ≡ firstLine sh d +ℤ pos u = q ∙ ap (λ (z : ℤ). z +ℤ pos u) first in
-      rw number (toZ-ofZ (sum-fits (firstLine sh d) u first-near (omega (arith, count-most))))
+  count-is-lines e = ap (λ (l : Lines). l .count) (e ∙ lines-accepted sh d ok)
 
 -- ---- the pixels of a line
 
@@ -109,14 +60,14 @@ module _ (f : List ℕ) (sh : Shape) (d : Direction) where
     (rw e at (g .written ∙ after-done a _ _ (ap (λ (a : Answer). a .number) says))),
   )
     where
-      there : length (pixels sh d k) ≡ 0 → ⊥
-      there z = true≢false (sym (empty-none (pixels sh d k) z) ∙ among-line sh d (w .ok) k (record { u = u; below = h; is = sym e }))
+      there : noLine sh d k ≡ false
+      there = among-line sh d (w .ok) k (record { u = u; below = h; is = sym e })
 
       room : length (pixels sh d k) ≤ length px
       room = omega (arith, pixels-most sh d (w .ok) k, framed sh (w .ok .frame))
 
       says : a ≡ done (length (pixels sh d k))
-      says = g .answers ∙ sym (accepted-call sh d k (length f) (needed sh) (length px) (length (pixels sh d k)) (w .ok) there (w .source) room)
+      says = g .answers ∙ gather-done sh d k (length f) (length px) (w .ok) there (w .source) room
 
   module _ (ok : Accepted sh d) (u : ℕ) where
     pub line-short : length (lineAt f sh d u) ≤ max (sh .width) (sh .height)

@@ -15,14 +15,15 @@ use lib.Dec.{ltb, eqb}
 use lib.ListN.{length, getD, set, length-set, drop-of-length-le, List·getD-eq-default}
 use lib.Seq.{drop-cons, getD-set-same, getD-set-other}
 use borrow.Author.Tests.{ltb-true, ltb-false, eq-eqb, ne-eqb, eqb-true, eqb-false}
+use Rattle.lists.specs.Members.{All}
 use Rattle.lists.specs.Extremes.{greatest}
 use Rattle.lists.proofs.Cases.{less-or-not}
 use Rattle.lists.proofs.Extremes.{greatest-append}
 use Rattle.answer.specs.Limits.{longest}
 use Rattle.lists.proofs.Totals.{entry-total, total-most}
-use Rattle.stretch.specs.declared.Stretch.{Stretch}
-use Rattle.stretch.specs.Stretches.{before, behind, levelOf, baseOf, stretchOf, stretches}
-use Rattle.stretch.proofs.Listed.{Bright, All, all-intro}
+use Rattle.bright.specs.declared.Stretch.{Stretch}
+use Rattle.bright.specs.Stretches.{before, behind, levelOf, baseOf, stretchOf, stretches, Bright}
+use Rattle.bright.proofs.Listed.{all-intro}
 use Rattle.bridge.specs.Reach.{long}
 use Rattle.bridge.specs.Sums.{sumFor, light, lightOf}
 use Rattle.bridge.proofs.Sizes.{bin-stretches, rest-stretches}

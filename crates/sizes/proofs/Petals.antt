@@ -25,13 +25,13 @@ use Rattle.answer.proofs.Rules.{kept, after-done, after-refused}
 use Rattle.frame.specs.declared.direction.Direction.{Direction}
 use Rattle.frame.specs.declared.shape.Shape.{Shape}
 use Rattle.frame.specs.Direction.{numberedOf}
-use Rattle.frame.specs.Shape.{isFrame, needed}
+use Rattle.frame.specs.Shape.{isFrame, needed, scratchFor}
 use Rattle.frame.specs.Lines.{at, place}
 use Rattle.frame.specs.Sweep.{Accepted}
 use Rattle.frame.proofs.Directions.{numbered-accepted}
 use Rattle.frame.proofs.Shapes.{framed}
 use Rattle.sizes.specs.Sums.{frameSums}
-use Rattle.sizes.specs.Frame.{scratchFor, SumsFrame}
+use Rattle.sizes.specs.Frame.{SumsFrame}
 use Rattle.sizes.specs.Rose.{petals, roseRules, darkRose, roseOf, Roses}
 use Rattle.sizes.specs.Steps.{Roomy, SetsRow}
 use Rattle.sizes.proofs.Gathered.{frame-total}

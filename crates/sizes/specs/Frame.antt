@@ -2,7 +2,7 @@
 use mathlib.Core.Path.{_≡_}
 use mathlib.Core.Bool.{not}
 use mathlib.Core.List.{List, [], _∷_}
-use Prim.Native.Nat.{ℕ, _+_, _-_, _*_, max}
+use Prim.Native.Nat.{ℕ, _+_, _-_}
 use lib.Dec.{ltb}
 use lib.ListN.{length}
 use Rattle.answer.specs.declared.Answer.{Answer}
@@ -11,12 +11,8 @@ use Rattle.answer.specs.Rules.{Rule, rule, answer, after, outside}
 use Rattle.frame.specs.declared.direction.Direction.{Direction}
 use Rattle.frame.specs.declared.shape.Shape.{Shape}
 use Rattle.frame.specs.Direction.{isDirection}
-use Rattle.frame.specs.Shape.{isFrame, needed}
+use Rattle.frame.specs.Shape.{isFrame, needed, scratchFor}
 use Rattle.sizes.specs.Sums.{frameSums}
-
--- 'scratch shorter than 8·max(W, H) bytes'
-abbrev pub scratchFor : Shape → ℕ
-scratchFor sh = 8 * max (sh .width) (sh .height)
 
 -- a sums slice of so many entries, a source of size bytes and a scratch of spare bytes
 abbrev pub frameRules : Shape → Direction → ℕ → ℕ → ℕ → List Rule

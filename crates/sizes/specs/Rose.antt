@@ -14,9 +14,8 @@ use Rattle.lists.specs.Tables.{table}
 use Rattle.answer.specs.Rules.{Rule, rule, answer, after}
 use Rattle.frame.specs.declared.shape.Shape.{Shape}
 use Rattle.frame.specs.Direction.{numberedOf}
-use Rattle.frame.specs.Shape.{isFrame, needed}
+use Rattle.frame.specs.Shape.{isFrame, needed, scratchFor}
 use Rattle.sizes.specs.Sums.{frameSums}
-use Rattle.sizes.specs.Frame.{scratchFor}
 
 -- 'row d has 32 bins and the rest'
 abbrev pub petals : ℕ

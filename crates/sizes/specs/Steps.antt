@@ -21,13 +21,12 @@ use Rattle.answer.specs.Limits.{longest}
 use Rattle.frame.specs.declared.direction.Direction.{Direction}
 use Rattle.frame.specs.declared.shape.Shape.{Shape}
 use Rattle.frame.specs.Direction.{numberedOf}
-use Rattle.frame.specs.Shape.{isFrame, needed}
+use Rattle.frame.specs.Shape.{isFrame, needed, scratchFor}
 use Rattle.frame.specs.Sweep.{Accepted}
-use Rattle.stretch.specs.declared.Stretch.{Stretch}
+use Rattle.bright.specs.declared.Stretch.{Stretch}
 use Rattle.bridge.specs.Reach.{long}
 use Rattle.bridge.specs.Sums.{light, lightOf}
 use Rattle.sizes.specs.Sums.{lineSums, frameSums}
-use Rattle.sizes.specs.Frame.{scratchFor}
 use Rattle.sizes.specs.Rose.{petals}
 
 abbrev pub zeros : ℕ → List ℕ

@@ -1,4 +1,5 @@
 // Size sums of a frame in a direction: those of its lines, added up.
+use crate::Pixel;
 use crate::lines::add_line;
 use crate::lines::clear;
 use answer::Answer;
@@ -6,83 +7,54 @@ use answer::LONGEST;
 use answer::is_outside;
 use frame::Direction;
 use frame::Shape;
-use frame::gather;
+use frame::line_number;
 use frame::lines_of;
-use frame::row;
+use gathering::gather;
+use gathering::row;
 ghost use mathlib.Core.Path.{_≡_};
-ghost use mathlib.Core.Bool.{true};
-ghost use Prim.Native.Nat.{_*_, _≤_, _<_};
+ghost use Prim.Native.Nat.{_≤_, _<_};
 ghost use lib.ListN.{length};
-ghost use lib.IntN.{natAbs, pos, _+ℤ_};
 ghost use Rattle.lists.specs.Stores.{front};
 ghost use Rattle.answer.specs.Limits.{longest};
 ghost use Rattle.answer.specs.Rules.{answer};
 ghost use Rattle.frame.specs.Lines.{lineCount};
-ghost use Rattle.frame.specs.Shape.{isFrame};
+ghost use Rattle.frame.specs.Shape.{scratchFor};
 ghost use Rattle.sizes.specs.Sums.{lineAt};
-ghost use Rattle.sizes.specs.Frame.{scratchFor, frameRules, SumsFrame};
+ghost use Rattle.sizes.specs.Frame.{frameRules, SumsFrame};
 ghost use Rattle.sizes.specs.Steps.{Modest, Adds, Whole, SetsFrame};
 
-// The bytes of scratch that a frame's lines need.
-pub(crate) fn scratch_for(shape: Shape) -> usize
-    requires { ⌜ isFrame shape ≡ true ⌝ }
-    ensures { λ n. ⌜ n ≡ scratchFor shape ⌝ }
-{
-    let width = shape.width;
-    let height = shape.height;
-    if width < height {
-        8 * height
-    } else {
-        8 * width
-    }
-}
-
 // Rules 1, 2, 4, 5 and 7 for a frame of `size` bytes, with `entries` sums and `spare` bytes of scratch.
-fn refusal(shape: Shape, d: Direction, entries: usize, size: usize, spare: usize) -> Answer
+pub(crate) fn refusal(
+    shape: Shape,
+    d: Direction,
+    entries: usize,
+    size: usize,
+    spare: usize,
+) -> Answer
     ensures { λ r. ⌜ r ≡ answer (frameRules shape d entries size spare) 0 ⌝ }
 {
     if !shape.is_frame() {
         return Answer::refused(1, 0);
     }
-    if !d.is_direction() {
-        return Answer::refused(2, 0);
-    }
-    if is_outside(entries, 2, LONGEST + 1) {
-        return Answer::refused(4, 0);
-    }
-    let bytes = shape.bytes();
-    if size < bytes {
-        return Answer::refused(5, bytes as u64);
-    }
-    let room = scratch_for(shape);
-    if spare < room {
-        return Answer::refused(7, room as u64);
-    }
     Answer::done(0)
-}
-
-// The number of line u, counted from the first.
-fn number_of(first: i64, u: usize) -> i64
-    requires { ⌜ (natAbs first ≤ longest) × (u ≤ 2 * longest) ⌝ }
-    ensures { λ k. ⌜ k ≡ first +ℤ pos u ⌝ }
-{
-    first + u as i64
+        .unless(2, !d.is_direction())
+        .unless(4, is_outside(entries, 2, LONGEST + 1))
+        .needing(5, size, shape.bytes())
+        .needing(7, spare, shape.scratch())
 }
 
 // The pixels of line u, counted from the first, to the front of `pixels`. Hands back their count.
-fn take_line(src: &[u8], shape: Shape, d: Direction, u: usize, pixels: &mut [u8]) -> usize
+fn take_line(src: &[Pixel], shape: Shape, d: Direction, u: usize, pixels: &mut [Pixel]) -> usize
     requires { ⌜ Whole shape d (length (now src)) × (u < lineCount shape d) × (length (now pixels) ≡ longest) ⌝ }
     ensures { λ n. ⌜ (n ≡ length (lineAt (now (src .entry)) shape d u)) × (now (pixels .exit) ≡ front (lineAt (now (src .entry)) shape d u) (now (pixels .entry))) ⌝ }
 {
-    let lines = lines_of(shape, d);
-    let line = number_of(lines.first, u);
-    let a = gather(src, shape, d, line, pixels);
+    let a = gather(src, shape, d, line_number(shape, d, u), pixels);
     a.figure as usize
 }
 
 // Adds bins and rest of line u, counted from the first, in any direction. It is gathered into an array: two parts of one scratch cannot be lent at once.
 fn add_gathered(
-    src: &[u8],
+    src: &[Pixel],
     shape: Shape,
     d: Direction,
     u: usize,
@@ -92,14 +64,14 @@ fn add_gathered(
     requires { ⌜ Whole shape d (length (now src)) × (u < lineCount shape d) × (scratchFor shape ≤ length (now scratch)) × (1 ≤ length (now sums)) × Modest (now sums) ⌝ }
     ensures { λ _. ⌜ Adds (lineAt (now (src .entry)) shape d u) (now (sums .entry)) (now (sums .exit)) × (length (now (scratch .exit)) ≡ length (now (scratch .entry))) ⌝ }
 {
-    let mut pixels = [0u8; LONGEST];
+    let mut pixels: [Pixel; LONGEST] = [0; LONGEST];
     let n = take_line(src, shape, d, u, &mut pixels);
     add_line(&pixels[..n], sums, scratch);
 }
 
 // Adds bins and rest of line u, counted from the first. Along, that is row u: it is read where it stands.
 fn add_line_of(
-    src: &[u8],
+    src: &[Pixel],
     shape: Shape,
     d: Direction,
     u: usize,
@@ -118,7 +90,7 @@ fn add_line_of(
 }
 
 // Bins and rest of a frame that no rule refuses: the slice is cleared, and one line after the other added.
-fn set_sums(src: &[u8], shape: Shape, d: Direction, sums: &mut [u64], scratch: &mut [u8])
+fn set_sums(src: &[Pixel], shape: Shape, d: Direction, sums: &mut [u64], scratch: &mut [u8])
     requires { ⌜ Whole shape d (length (now src)) × (scratchFor shape ≤ length (now scratch)) × (1 ≤ length (now sums)) ⌝ }
     ensures { λ _. ⌜ SetsFrame (now (src .entry)) shape d (now (sums .entry)) (now (sums .exit)) (now (scratch .entry)) (now (scratch .exit)) ⌝ }
 {
@@ -134,7 +106,7 @@ fn set_sums(src: &[u8], shape: Shape, d: Direction, sums: &mut [u64], scratch: &
 
 // Bins and rest of a frame's lines in a direction, the rest last: as many bins as `sums` has entries before its last. Hands back 0. Rules 1, 2, 4, 5, 7.
 pub fn sums_of_frame(
-    src: &[u8],
+    src: &[Pixel],
     shape: Shape,
     d: Direction,
     sums: &mut [u64],

@@ -10,3 +10,5 @@ pub use roses::rose;
 pub use roses::rose_refusal;
 pub use summary::Summary;
 pub use summary::summarize;
+
+pub type Pixel = u8;

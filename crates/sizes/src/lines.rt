@@ -1,4 +1,5 @@
 // Size sums of a line.
+use crate::Pixel;
 use answer::Answer;
 use answer::LONGEST;
 use answer::is_outside;
@@ -39,7 +40,7 @@ fn add_light(sums: &mut [u64], s: Stretch)
 }
 
 // Adds bins and rest of a line to a sums slice, in one pass over its stretches: the time does not depend on how many bins there are.
-pub(crate) fn add_line(line: &[u8], sums: &mut [u64], scratch: &mut [u8])
+pub(crate) fn add_line(line: &[Pixel], sums: &mut [u64], scratch: &mut [u8])
     requires { ⌜ (length (now line) ≤ longest) × (4 * length (now line) ≤ length (now scratch)) × (1 ≤ length (now sums)) × Modest (now sums) ⌝ }
     ensures { λ _. ⌜ Adds (now (line .entry)) (now (sums .entry)) (now (sums .exit)) × (length (now (scratch .exit)) ≡ length (now (scratch .entry))) ⌝ }
 {
@@ -72,17 +73,13 @@ fn refusal(n: usize, entries: usize, spare: usize) -> Answer
     if is_outside(n, 1, LONGEST) {
         return Answer::refused(1, 0);
     }
-    if is_outside(entries, 2, LONGEST + 1) {
-        return Answer::refused(4, 0);
-    }
-    if spare < 8 * n {
-        return Answer::refused(7, 8 * n as u64);
-    }
     Answer::done(0)
+        .unless(4, is_outside(entries, 2, LONGEST + 1))
+        .needing(7, spare, 8 * n)
 }
 
 // Bins and rest of a line, the rest last: as many bins as `sums` has entries before its last. Hands back 0. Rules 1, 4, 7.
-pub fn sums_of_line(line: &[u8], sums: &mut [u64], scratch: &mut [u8]) -> Answer
+pub fn sums_of_line(line: &[Pixel], sums: &mut [u64], scratch: &mut [u8]) -> Answer
     ensures { λ r. ⌜ SumsLine (now (line .entry)) (now (sums .entry)) (now (sums .exit)) (now (scratch .entry)) (now (scratch .exit)) r ⌝ }
 {
     let a = refusal(line.len(), sums.len(), scratch.len());

@@ -1,4 +1,5 @@
 // The bright stretches one after the other, in one reading of the line. Each step reads on until a run ends: the pixels that end none cost one comparison each.
+use crate::Pixel;
 use crate::Place;
 use crate::Step;
 use crate::Stretch;
@@ -14,8 +15,8 @@ ghost use Prim.Native.Nat.{_+_, _≤_, _<_};
 ghost use lib.Dec.{ltb};
 ghost use lib.ListN.{length};
 ghost use Rattle.answer.specs.Limits.{longest};
-ghost use Rattle.stretch.specs.Generator.{beginning, isReady, noStep, Follows};
-ghost use Rattle.stretch.specs.Steps.{Ready, Begins, Climbs, Closes, Ends, Falls, Finds};
+ghost use Rattle.bright.specs.Generator.{beginning, isReady, noStep, run8, Follows};
+ghost use Rattle.bright.specs.Steps.{Ready, Begins, Climbs, Closes, Ends, Falls, Finds};
 
 // Where a reading begins.
 pub fn begin() -> Place
@@ -41,9 +42,9 @@ fn is_ready(n: usize, room: usize, at: Place) -> bool
 }
 
 // Where no run is open, the next pixel opens one, whatever its level.
-fn open_first(line: &[u8], scratch: &mut [u8], at: Place) -> Place
+fn open_first(line: &[Pixel], scratch: &mut [u8], at: Place) -> Place
     requires { ⌜ Ready (now line) (now scratch) at ⌝ }
-    ensures { λ r. ⌜ Begins (now (line .entry)) (now (scratch .entry)) at (now (scratch .exit)) r ⌝ }
+    ensures { λ r. ⌜ Begins run8 (now (line .entry)) (now (scratch .entry)) at (now (scratch .exit)) r ⌝ }
 {
     let read = at.read;
     if at.depth != 0 {
@@ -60,7 +61,7 @@ fn open_first(line: &[u8], scratch: &mut [u8], at: Place) -> Place
 }
 
 // How many runs are open after a pixel v, which the topmost of `depth`, at `top`, is not brighter than.
-fn grown(depth: usize, top: u8, v: u8) -> usize
+fn grown(depth: usize, top: Pixel, v: Pixel) -> usize
     requires { ⌜ depth ≤ longest ⌝ }
     ensures { λ r. ⌜ r ≡ cond (ltb top v) (depth + 1) depth ⌝ }
 {
@@ -69,9 +70,9 @@ fn grown(depth: usize, top: u8, v: u8) -> usize
 
 // Reads on over the pixels that end no run: one that outshines the topmost opens another. Each is stored above the stack, whether it opens a run or not:
 // a store costs less than a branch that is guessed wrong.
-fn climb(line: &[u8], scratch: &mut [u8], at: Place) -> Place
+fn climb(line: &[Pixel], scratch: &mut [u8], at: Place) -> Place
     requires { ⌜ Ready (now line) (now scratch) at × (0 < at .depth) ⌝ }
-    ensures { λ r. ⌜ Climbs (now (line .entry)) (now (scratch .entry)) at (now (scratch .exit)) r ⌝ }
+    ensures { λ r. ⌜ Climbs run8 (now (line .entry)) (now (scratch .entry)) at (now (scratch .exit)) r ⌝ }
 {
     let mut read = at.read;
     let mut depth = at.depth;
@@ -91,35 +92,28 @@ fn climb(line: &[u8], scratch: &mut [u8], at: Place) -> Place
 
 // The pixel at hand, darker than the topmost run, ends it. The run goes on from its start at the pixel's level, and the pixel is read; or, where the run below, at `under`,
 // holds the pixel, it is gone.
-fn fall(line: &[u8], scratch: &mut [u8], at: Place, start: u16, under: u8) -> Place
-    requires { ⌜ Ends (now line) (now scratch) at start under × (at .read < length (now line)) ⌝ }
-    ensures { λ r. ⌜ Falls (now (line .entry)) (now (scratch .entry)) at (now (scratch .exit)) r ⌝ }
+fn fall(line: &[Pixel], scratch: &mut [u8], at: Place, start: u16, under: Pixel) -> Place
+    requires { ⌜ Ends run8 (now line) (now scratch) at start under × (at .read < length (now line)) ⌝ }
+    ensures { λ r. ⌜ Falls run8 (now (line .entry)) (now (scratch .entry)) at (now (scratch .exit)) r ⌝ }
 {
     let read = at.read;
     let depth = at.depth;
     let v = line[read];
     let last = depth - 1;
-    if last == 0 {
-        put(scratch, last, start, v);
-        return Place {
-            read: read + 1,
-            depth,
-        };
+    if last != 0 {
+        if v <= under {
+            return Place { read, depth: last };
+        }
     }
-    if under < v {
-        put(scratch, last, start, v);
-        return Place {
-            read: read + 1,
-            depth,
-        };
-    }
-    Place { read, depth: last }
+    put(scratch, last, start, v);
+    let next = read + 1;
+    Place { read: next, depth }
 }
 
 // The topmost run ends here: the pixel at hand is darker, or the line is at its end.
-fn close(line: &[u8], scratch: &mut [u8], at: Place) -> Step
-    requires { ⌜ Closes (now line) (now scratch) at ⌝ }
-    ensures { λ r. ⌜ Finds (now (line .entry)) (now (scratch .entry)) at (now (scratch .exit)) r ⌝ }
+fn close(line: &[Pixel], scratch: &mut [u8], at: Place) -> Step
+    requires { ⌜ Closes run8 (now line) (now scratch) at ⌝ }
+    ensures { λ r. ⌜ Finds run8 (now (line .entry)) (now (scratch .entry)) at (now (scratch .exit)) r ⌝ }
 {
     let read = at.read;
     let depth = at.depth;
@@ -171,9 +165,9 @@ fn nothing(at: Place) -> Step
 }
 
 // One step of a reading that stands at `at`: on to where a run ends, and that run.
-fn find(line: &[u8], scratch: &mut [u8], at: Place) -> Step
+fn find(line: &[Pixel], scratch: &mut [u8], at: Place) -> Step
     requires { ⌜ Ready (now line) (now scratch) at ⌝ }
-    ensures { λ r. ⌜ Follows (now (line .entry)) (now (scratch .entry)) at (now (scratch .exit)) r ⌝ }
+    ensures { λ r. ⌜ Follows run8 (now (line .entry)) (now (scratch .entry)) at (now (scratch .exit)) r ⌝ }
 {
     let first = open_first(line, scratch, at);
     if first.depth == 0 {
@@ -185,8 +179,8 @@ fn find(line: &[u8], scratch: &mut [u8], at: Place) -> Step
 
 // The next stretch of a line and the place to go on from, where a reading that `begin` began stands at `at`, its open runs in the scratch.
 // Handed a place at which no reading can stand, it finds nothing and changes nothing.
-pub fn next(line: &[u8], scratch: &mut [u8], at: Place) -> Step
-    ensures { λ r. ⌜ Follows (now (line .entry)) (now (scratch .entry)) at (now (scratch .exit)) r ⌝ }
+pub fn next(line: &[Pixel], scratch: &mut [u8], at: Place) -> Step
+    ensures { λ r. ⌜ Follows run8 (now (line .entry)) (now (scratch .entry)) at (now (scratch .exit)) r ⌝ }
 {
     if is_ready(line.len(), scratch.len(), at) {
         return find(line, scratch, at);

@@ -1,4 +1,5 @@
 // The list of bright stretches in a lent table.
+use crate::Pixel;
 use crate::Place;
 use crate::Stretch;
 use crate::generator::begin;
@@ -10,30 +11,24 @@ use answer::is_outside;
 ghost use mathlib.Core.Path.{_≡_};
 ghost use lib.ListN.{length};
 ghost use Rattle.answer.specs.Rules.{answer};
-ghost use Rattle.stretch.specs.Stretches.{stretches};
-ghost use Rattle.stretch.specs.Listing.{listRules, ListsLine};
-ghost use Rattle.stretch.specs.Steps.{startOf, finished};
+ghost use Rattle.bright.specs.Stretches.{stretches};
+ghost use Rattle.bright.specs.Listing.{listRules, ListsLine};
+ghost use Rattle.bright.specs.Steps.{startOf, finished};
 
 // Rules 1, 7 and 8 for a line, with `room` entries of table and `spare` bytes of scratch.
 // A line has no more stretches than pixels, so they are counted only where the table has fewer entries.
-fn refusal(line: &[u8], room: usize, spare: usize) -> Answer
+fn refusal(line: &[Pixel], room: usize, spare: usize) -> Answer
     ensures { λ r. ⌜ r ≡ answer (listRules (length (now (line .entry))) spare room (length (stretches (now (line .entry))))) 0 ⌝ }
 {
     let n = line.len();
     if is_outside(n, 1, LONGEST) {
         return Answer::refused(1, 0);
     }
-    if spare < 8 * n {
-        return Answer::refused(7, 8 * n as u64);
-    }
+    let a = Answer::done(0).needing(7, spare, 8 * n);
     if n <= room {
-        return Answer::done(0);
+        return a;
     }
-    let entries = count(line);
-    if room < entries {
-        return Answer::refused(8, entries as u64);
-    }
-    Answer::done(0)
+    a.needing(8, room, count(line))
 }
 
 // Where the reading of a listing starts: at a refusal nowhere, at a place where none can stand.
@@ -57,7 +52,7 @@ fn finish(tested: Answer, entries: usize) -> Answer
 }
 
 // Lists the bright stretches of a line at the front of a table. Hands back their count. Rules 1, 7, 8.
-pub fn list(line: &[u8], table: &mut [Stretch], scratch: &mut [u8]) -> Answer
+pub fn list(line: &[Pixel], table: &mut [Stretch], scratch: &mut [u8]) -> Answer
     ensures { λ r. ⌜ ListsLine (now (line .entry)) (now (table .entry)) (now (table .exit)) (now (scratch .entry)) (now (scratch .exit)) r ⌝ }
 {
     let a = refusal(line, table.len(), scratch.len());

@@ -1,19 +1,20 @@
 // The open runs of a reading, as they lie in the lent scratch: a stack of four bytes a run, two of start, one of level and one free.
 // The level is stored and read as one byte: two bytes stored apart and read as a pair would make the reading wait.
+use crate::Pixel;
 ghost use mathlib.Core.Path.{_≡_};
 ghost use mathlib.Core.List.{_∷_};
 ghost use Prim.Native.Nat.{suc, _+_, _*_, _≤_, _<_, max};
 ghost use lib.ListN.{length};
-ghost use Rattle.stretch.specs.Reading.{topLevel};
-ghost use Rattle.stretch.specs.Generator.{pairAt, stackOf};
+ghost use Rattle.bright.specs.Reading.{topLevel};
+ghost use Rattle.bright.specs.Generator.{pairAt, run8, stackOf};
 
-pub(crate) fn wide(x: u8) -> u16
+pub(crate) fn wide(x: Pixel) -> u16
     ensures { λ r. ⌜ (r ≡ x) × (r < 256) ⌝ }
 {
     x as u16
 }
 
-pub(crate) fn brighter(a: u8, b: u8) -> u8
+pub(crate) fn brighter(a: Pixel, b: Pixel) -> Pixel
     ensures { λ r. ⌜ r ≡ max a b ⌝ }
 {
     if a < b { b } else { a }
@@ -27,9 +28,9 @@ pub(crate) fn pair_at(scratch: &[u8], at: usize) -> u16
 }
 
 // Stores a run as number i; those before it stay.
-pub(crate) fn put(scratch: &mut [u8], i: usize, start: u16, level: u8)
+pub(crate) fn put(scratch: &mut [u8], i: usize, start: u16, level: Pixel)
     requires { ⌜ 4 * i + 4 ≤ length (now scratch) ⌝ }
-    ensures { λ _. ⌜ stackOf (now (scratch .exit)) (suc i) ≡ record { start = start; level = level } ∷ stackOf (now (scratch .entry)) i ⌝ }
+    ensures { λ _. ⌜ stackOf run8 (now (scratch .exit)) (suc i) ≡ record { start = start; level = level } ∷ stackOf run8 (now (scratch .entry)) i ⌝ }
 {
     let at = 4 * i;
     scratch[at] = (start % 256) as u8;
@@ -38,9 +39,9 @@ pub(crate) fn put(scratch: &mut [u8], i: usize, start: u16, level: u8)
 }
 
 // The level of the topmost of `depth` runs, 0 where there is none.
-pub(crate) fn top_level(scratch: &[u8], depth: usize) -> u8
+pub(crate) fn top_level(scratch: &[u8], depth: usize) -> Pixel
     requires { ⌜ 4 * depth ≤ length (now scratch) ⌝ }
-    ensures { λ r. ⌜ r ≡ topLevel (stackOf (now (scratch .entry)) depth) ⌝ }
+    ensures { λ r. ⌜ r ≡ topLevel (stackOf run8 (now (scratch .entry)) depth) ⌝ }
 {
     if depth == 0 {
         return 0;

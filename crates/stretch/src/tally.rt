@@ -1,13 +1,17 @@
 // How many bright stretches a line has.
+use crate::Pixel;
 ghost use mathlib.Core.Path.{_≡_};
 ghost use lib.ListN.{length};
-ghost use Rattle.stretch.specs.Stretches.{stretches};
+ghost use Rattle.bright.specs.Stretches.{stretches};
 
-// The count of the bright stretches of a line of any length. It needs no scratch: the levels of the open runs rise, so that 256 places are enough.
-pub fn count(line: &[u8]) -> usize
+// How many levels a pixel can have.
+const LEVELS: usize = 256;
+
+// The count of the bright stretches of a line of any length. It needs no scratch: the levels of the open runs rise, so that as many places as there are levels are enough.
+pub fn count(line: &[Pixel]) -> usize
     ensures { λ r. ⌜ r ≡ length (stretches (now (line .entry))) ⌝ }
 {
-    let mut levels = [0u8; 256];
+    let mut levels: [Pixel; LEVELS] = [0; LEVELS];
     let mut depth: usize = 0;
     let mut total: usize = 0;
     let mut read: usize = 0;

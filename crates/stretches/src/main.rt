@@ -3,10 +3,6 @@ use frame::Direction;
 use frame::Shape;
 use libc::STDIN_FILENO;
 use libc::STDOUT_FILENO;
-ghost use mathlib.Core.Path.{_≡_};
-ghost use Prim.Native.Nat.{_*_, _≤_};
-ghost use lib.IntN.{natAbs, pos, _+ℤ_};
-ghost use Rattle.answer.specs.Limits.{longest};
 
 // The most pixels of an input: each takes two bytes of its 65,536.
 const PIXELS: usize = 32768;
@@ -41,7 +37,7 @@ fn print_line(number: i64, line: &[u8]) {
 // Gathers the line of a number and prints it.
 fn print_gathered(pixels: &[u8], shape: Shape, d: Direction, number: i64) {
     let mut line = [0u8; 4096];
-    let a = frame::gather(pixels, shape, d, number, &mut line);
+    let a = gathering::gather(pixels, shape, d, number, &mut line);
     if a.number != 0 {
         return;
     }
@@ -51,22 +47,13 @@ fn print_gathered(pixels: &[u8], shape: Shape, d: Direction, number: i64) {
     }
 }
 
-// The number of line u, counted from the first.
-fn number_of(first: i64, u: usize) -> i64
-    requires { ⌜ (natAbs first ≤ longest) × (u ≤ 2 * longest) ⌝ }
-    ensures { λ k. ⌜ k ≡ first +ℤ pos u ⌝ }
-{
-    first + u as i64
-}
-
 // Prints the lines of a frame in ascending number.
 fn print_lines(pixels: &[u8], shape: Shape, d: Direction) {
     let lines = frame::lines_of(shape, d);
-    let first = lines.first;
     let count = lines.count;
     let mut u: usize = 0;
     while u < count {
-        print_gathered(pixels, shape, d, number_of(first, u));
+        print_gathered(pixels, shape, d, frame::line_number(shape, d, u));
         u += 1;
     }
 }

@@ -4,31 +4,33 @@
 --   rows-many, rows-below    the rows have height times width pixels, each to 255
 --   head-many, head-values   the first two lines have three numbers, which stand at the front of the buffer
 --   stored-value             a value at the front of the buffer
---   refused-size .. accepted the answer, by the first rule broken
---   tests-refused, tests-done    what the tests leave
+--   refused-size, refused-head, refused-numbers    the answer, where a rule for the size or for the first two lines is broken
+--   headed                   the first two lines, where they break no rule
+--   rows-tested, tests-refused, tests-rows    what the tests leave
 --   input-fits, input-many, input-value, input-small, input-room, input-below, input-pixels    what they leave of an input that is not refused
 --   handing, input-refused, input-done    what the call hands back
 -- Assumes nothing.
 use mathlib.Core.Path.{_≡_, refl, sym, ap, _∙_}
-use mathlib.Core.Bool.{Bool, true, false, cond, _&&_, false≢true}
+use mathlib.Core.Bool.{Bool, true, false, cond, not, _&&_, false≢true}
 use mathlib.Core.List.{List, [], _∷_, _++_, append-assoc}
 use Prim.Native.Nat.{ℕ, zero, suc, _+_, _*_, _≤_, _<_, zero-le}
 use native.Mathlib.Nat.{suc-mul, mul-comm}
 use native.Mathlib.Omega.{arith}
+use lib.Dec.{ltb}
 use lib.ListN.{length, getD, take, drop, length-append, List·getD-append}
 use lib.Seq.{sets, drop-at, take-at, length-sets, getD-append-add}
 use borrow.Author.Tests.{lt-ltb, le-ltb, ltb-false, not-false}
 use Rattle.lists.proofs.Cases.{both-left}
 use Rattle.answer.specs.declared.Answer.{Answer}
 use Rattle.answer.specs.Limits.{longest, widest}
-use Rattle.answer.specs.Rules.{answer, done, refusal, by-number, outside}
-use Rattle.answer.proofs.Rules.{kept}
+use Rattle.answer.specs.Rules.{rule, answer, done, refusal, checked, by-number, outside}
+use Rattle.answer.proofs.Rules.{kept, answer-chain}
 use Rattle.text.specs.declared.input.Input.{Input}
 use Rattle.text.specs.declared.reading.Mark.{Mark}
 use Rattle.text.specs.Lines.{feed}
 use Rattle.text.specs.Reading.{Values, valued, noValues, before, starts, fieldOf, fieldsOf, ended, lineOf, rowsOf}
 use Rattle.text.specs.Inputs.{largest, headOf, directionIn, widthIn, heightIn, rowsIn, inputRules, inputOf}
-use Rattle.text.specs.Steps.{Stores, Tests}
+use Rattle.text.specs.Steps.{Stores, numberRules, Headed, TestsRows, Tests}
 use Rattle.text.proofs.Runs.{sets-join, sets-front}
 use Rattle.text.proofs.Readings.{field-bound}
 use Rattle.text.proofs.Goings.{line-many}
@@ -129,43 +131,68 @@ module _ (s : List ℕ) (room : ℕ) where
     refused-head e = simp (le-ltb _ _ size, e)
 
     module _ (head : headOf s .found ≡ true) where
-      pub refused-width : outside 1 longest (widthIn s) ≡ true → answer (inputRules s room) 0 ≡ refusal 1 0
-      refused-width e = simp (le-ltb _ _ size, head, e)
-
-      module _ (wide : outside 1 longest (widthIn s) ≡ false) where
-        pub refused-height : outside 1 longest (heightIn s) ≡ true → answer (inputRules s room) 0 ≡ refusal 1 0
-        refused-height e = simp (le-ltb _ _ size, head, wide, e)
-
-        module _ (high : outside 1 longest (heightIn s) ≡ false) where
-          pub refused-direction : 15 < directionIn s → answer (inputRules s room) 0 ≡ refusal 2 0
-          refused-direction h = simp (le-ltb _ _ size, head, wide, high, lt-ltb _ _ h)
-
-          module _ (numbered : directionIn s ≤ 15) where
-            pub refused-rows : rowsIn s .found ≡ false → answer (inputRules s room) 0 ≡ refusal 9 0
-            refused-rows e = simp (le-ltb _ _ size, head, wide, high, le-ltb _ _ numbered, e)
-
-            module _ (rows : rowsIn s .found ≡ true) where
-              pub refused-room : room < widthIn s * heightIn s → answer (inputRules s room) 0 ≡ refusal 6 (widthIn s * heightIn s)
-              refused-room h = simp (le-ltb _ _ size, head, wide, high, le-ltb _ _ numbered, rows, lt-ltb _ _ h)
-
-              pub accepted : widthIn s * heightIn s ≤ room → answer (inputRules s room) 0 ≡ done 0
-              accepted h = simp (le-ltb _ _ size, head, wide, high, le-ltb _ _ numbered, rows, le-ltb _ _ h)
+      -- the answer of the numbers' rules, where one of them is broken
+      pub refused-numbers : (a : Answer) → a ≡ answer (numberRules (directionIn s) (widthIn s) (heightIn s)) 0 → (a .number ≡ 0 → ⊥) → answer (inputRules s room) 0 ≡ a
+      refused-numbers a e ne = go (outside 1 longest (widthIn s)) refl (outside 1 longest (heightIn s)) refl (ltb 15 (directionIn s)) refl
+        where
+          go : (t : Bool) → outside 1 longest (widthIn s) ≡ t → (u : Bool) → outside 1 longest (heightIn s) ≡ u → (v : Bool) → ltb 15 (directionIn s) ≡ v
+              → answer (inputRules s room) 0 ≡ a
+          go true t u h v d = simp (le-ltb _ _ size, head, t) (sym (e ∙ rw t))
+          go false t true h v d = simp (le-ltb _ _ size, head, t, h) (sym (e ∙ rw (t, h)))
+          go false t false h true d = simp (le-ltb _ _ size, head, t, h, d) (sym (e ∙ rw (t, h, d)))
+          go false t false h false d = absurd (ne (rw (e, t, h, d)))
 
 -- ---- what the tests leave
 
-pub tests-refused : (s : List ℕ) (room : ℕ) (vs vs′ : List ℕ) (a : Answer) (n f : ℕ) → a ≡ refusal (suc n) f → answer (inputRules s room) 0 ≡ refusal (suc n) f → Tests s room vs vs′ a
-tests-refused s room vs vs′ a n f e q =
-    let number = ap (λ (x : Answer). x .number) e in
-    record { answers = e ∙ sym q; stored = λ z. absurd (omega (arith, number)); fits = λ z. absurd (omega (arith, number)) }
+pub tests-refused : (s : List ℕ) (room : ℕ) (vs vs′ : List ℕ) (a : Answer) → (a .number ≡ 0 → ⊥) → answer (inputRules s room) 0 ≡ a → Tests s room vs vs′ a
+tests-refused s room vs vs′ a ne q = record { answers = sym q; stored = λ z. absurd (ne z); fits = λ z. absurd (ne z) }
 
-pub tests-done : (s : List ℕ) (room : ℕ) (vs vs₁ vs₂ : List ℕ) (head rows : Mark) (a : Answer) → Stores (headOf s) s 0 0 vs vs₁ head → head .found ≡ true
-    → Stores (rowsIn s) s (head .next) 3 vs₁ vs₂ rows → rows .found ≡ true → length s ≤ largest → a ≡ done 0 → answer (inputRules s room) 0 ≡ done 0 → Tests s room vs vs₂ a
-tests-done s room vs vs₁ vs₂ head rows a first f second g size e q =
+-- the first two lines, where no rule for their numbers is broken
+pub headed : (s vs vs₁ : List ℕ) (head : Mark) (d w h : ℕ) (a : Answer) → Stores (headOf s) s 0 0 vs vs₁ head → head .found ≡ true → length s ≤ largest
+    → largest ≤ 2 * length vs → d ≡ directionIn s → w ≡ widthIn s → h ≡ heightIn s → a ≡ answer (numberRules d w h) 0 → a .number ≡ 0 → Headed s (head .next) w h vs₁
+headed s vs vs₁ head d w h a first f size large d-is w-is h-is e z =
+    let there = sym (first .found) ∙ f in
+    let k = kept (numberRules d w h) 0 refl (rw e at z) in
+    let same = ap length (first .stored f) ∙ length-sets vs 0 (headOf s .values) in
+    record {
+      size = size;
+      found = there;
+      width = w-is;
+      height = h-is;
+      wide = rw w-is at (k .0);
+      high = rw h-is at (k .1 .0);
+      numbered = ltb-false 15 (directionIn s) (rw d-is at (k .1 .1 .0));
+      rest = first .rest f;
+      room = record { inside = first .inside f; fewer = omega (arith, first .far f, head-many s there); large = omega (arith, same) };
+    }
+
+-- the rows behind such lines, as they were read
+module _ {s : List ℕ} {at w h : ℕ} {vs vs′ : List ℕ} {r : Mark} (head : Headed s at w h vs) (room : ℕ) (stores : Stores (rowsOf h w (drop at s)) s at 3 vs vs′ r) where
+  read : Stores (rowsIn s) s at 3 vs vs′ r
+  read =
+      let same : rowsOf h w (drop at s) ≡ rowsIn s = rw (head .width, head .height, head .rest) in
+      rw same at stores
+
+  -- the last two rules, checked one after the other
+  pub rows-tested : (a : Answer) → a ≡ checked (checked (done 0) (rule (not (r .found)) 9 0)) (rule (ltb room (w * h)) 6 (w * h)) → TestsRows s room at vs vs′ a
+  rows-tested a e = record { answers = answers; stored = λ z. read .stored (there z); fits = λ z. omega (arith, read .far (there z), read .inside (there z)) }
+    where
+      answers : a ≡ answer (inputRules s room) 0
+      answers =
+          e ∙ rw (read .found, head .width, head .height, le-ltb _ _ (head .size), head .found, head .wide, head .high, le-ltb _ _ (head .numbered))
+          (answer-chain (drop 5 (inputRules s room)) 0 refl)
+
+      there : a .number ≡ 0 → r .found ≡ true
+      there z = read .found ∙ not-false (rowsIn s .found) (kept (inputRules s room) 0 refl (rw answers at z) .1 .1 .1 .1 .1 .0)
+
+pub tests-rows : (s : List ℕ) (room : ℕ) (vs vs₁ vs₂ : List ℕ) (head : Mark) (a : Answer) → Stores (headOf s) s 0 0 vs vs₁ head → head .found ≡ true → length s ≤ largest
+    → TestsRows s room (head .next) vs₁ vs₂ a → Tests s room vs vs₂ a
+tests-rows s room vs vs₁ vs₂ head a first f size rows =
     let three = head-many s (sym (first .found) ∙ f) in
     record {
-      answers = e ∙ sym q;
-      stored = λ z. second .stored g ∙ rw (first .stored f) (sets-join vs (headOf s .values) (rowsIn s .values) 3 three);
-      fits = λ z. omega (arith, first .far f, second .far g, second .inside g, length-append (headOf s .values) (rowsIn s .values));
+      answers = rows .answers;
+      stored = λ z. rows .stored z ∙ rw (first .stored f) (sets-join vs (headOf s .values) (rowsIn s .values) 3 three);
+      fits = λ z. omega (arith, first .far f, rows .fits z, length-append (headOf s .values) (rowsIn s .values));
     }
 
 -- ---- an input that is not refused

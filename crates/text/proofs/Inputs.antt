@@ -16,11 +16,13 @@ use native.Mathlib.Omega.{arith}
 use lib.Dec.{ltb, leb, eqb}
 use lib.ListN.{length, getD, take, drop, take-append-drop, length-drop}
 use lib.Seq.{take-at, drop-at, length-take-le}
-use borrow.Author.Tests.{lt-ltb, le-leb, eqb-true, eq-eqb, not-false}
+use borrow.Author.Tests.{lt-ltb, le-ltb, le-leb, eqb-true, eq-eqb, not-false}
 use Rattle.answer.specs.Limits.{longest, widest}
 use Rattle.answer.specs.Rules.{answer, done, outside}
 use Rattle.answer.proofs.Rules.{kept, outside-not}
+use Rattle.lists.specs.Members.{All}
 use Rattle.lists.proofs.Cases.{less-or-not, both, both-left, both-right}
+use Rattle.lists.proofs.Members.{all-take, all-drop}
 use Rattle.text.specs.Decimal.{digits, decimal}
 use Rattle.text.specs.Lines.{tab, feed, fieldsText, lineText}
 use Rattle.text.specs.Reading.{isDigit, goesOn, Numeral, numeral, noNumeral, numberOn, numberOf, starts, atMost, fieldOf, Values, valued, noValues, before, fieldsOf, ended, lineOf, rowsOf}
@@ -28,7 +30,6 @@ use Rattle.text.specs.Inputs.{largest, rowsText, frameText, headOf, dire
 use Rattle.text.proofs.Decimals.{decimal-one, decimal-more}
 use Rattle.text.proofs.Readings.{digit-facts, goes-facts}
 use Rattle.text.proofs.Goings.{line-many}
-use Rattle.text.proofs.Frames.{accepted}
 
 -- ---- numbers
 
@@ -151,8 +152,7 @@ fields-sound most (suc n) s e = go (fields-sound most n (fieldOf most s .rest)) 
 
 -- no value is above `most`
 abbrev pub Within : ℕ → List ℕ → Type 0
-Within most [] = Unit
-Within most (v ∷ vs) = (v ≤ most) × Within most vs
+Within most vs = All (λ (v : ℕ). v ≤ most) vs
 
 -- what follows a field is a tab or the line feed
 field-stops : (vs t : List ℕ) → Stops (fieldsText vs ++ (feed ∷ t))
@@ -161,7 +161,7 @@ field-stops [] t = λ v. stops v feed t refl
 field-stops (x ∷ vs) t = λ v. stops v tab (decimal x ++ fieldsText vs ++ (feed ∷ t)) refl
 
 pub fields-found : (most : ℕ) (vs t : List ℕ) → most ≤ widest → Within most vs → fieldsOf most (length vs) (fieldsText vs ++ (feed ∷ t)) ≡ valued vs (feed ∷ t)
-unfolding fieldsOf fieldsText
+unfolding fieldsOf fieldsText All
 fields-found most [] t range w = refl
 fields-found most (v ∷ vs) t range w =
     let here = field-found most v (fieldsText vs ++ (feed ∷ t)) (w .0) range (field-stops vs t) in
@@ -219,16 +219,6 @@ rows-sound (suc h) w s e = go (rows-sound h w (lineOf 82 255 w s .rest)) (lineOf
         ∙ sym (ap₂ (λ (x y : List ℕ). lineText 82 x ++ rowsText h w y) (take-at row others w many) (drop-at row others w many))
     go more false q f = absurd (false≢true f)
 
-within-take : (most n : ℕ) (vs : List ℕ) → Within most vs → Within most (take n vs)
-within-take most zero vs w = tt
-within-take most (suc n) [] w = tt
-within-take most (suc n) (v ∷ vs) w = (w .0, within-take most n vs (w .1))
-
-within-drop : (most n : ℕ) (vs : List ℕ) → Within most vs → Within most (drop n vs)
-within-drop most zero vs w = w
-within-drop most (suc n) [] w = tt
-within-drop most (suc n) (v ∷ vs) w = within-drop most n vs (w .1)
-
 pub rows-found : (h w : ℕ) (ps : List ℕ) → length ps ≡ h * w → Within 255 ps → rowsOf h w (rowsText h w ps) ≡ valued ps []
 unfolding rowsOf rowsText
 rows-found zero w [] e d = refl
@@ -236,10 +226,10 @@ rows-found zero w (p ∷ ps) e d = absurd (omega (arith, e))
 rows-found (suc h) w ps e d =
     let size = e ∙ suc-mul h w in
     let many = length-take-le w ps (omega arith) in
-    let others = rows-found h w (drop w ps) (omega (arith, length-drop w ps)) (within-drop 255 w ps d) in
+    let others = rows-found h w (drop w ps) (omega (arith, length-drop w ps)) (all-drop (λ (v : ℕ). v ≤ 255) w ps d) in
     let row : lineOf 82 255 w (lineText 82 (take w ps) ++ rowsText h w (drop w ps)) ≡ valued (take w ps) (rowsText h w (drop w ps)) =
     ap (λ (n : ℕ). lineOf 82 255 n (lineText 82 (take w ps) ++ rowsText h w (drop w ps))) (sym many)
-    ∙ line-found 82 255 (take w ps) (rowsText h w (drop w ps)) (omega arith) (within-take 255 w ps d) in
+    ∙ line-found 82 255 (take w ps) (rowsText h w (drop w ps)) (omega arith) (all-take (λ (v : ℕ). v ≤ 255) w ps d) in
     rw (row, others) (ap (λ (l : List ℕ). valued l []) (take-append-drop w ps))
 
 -- ---- the whole text
@@ -281,7 +271,7 @@ frame-read s = go (lineOf 68 widest 1 s .found) refl
 
 module _ (d w h : ℕ) (ps : List ℕ) (numbered : d ≤ widest) (wide : w ≤ widest) (high : h ≤ widest) where
   pub head-found : headOf (frameText d w h ps) ≡ valued (d ∷ w ∷ h ∷ []) (rowsText h w ps)
-  unfolding headOf frameText
+  unfolding headOf frameText All
   head-found =
       let second = line-found 70 widest (w ∷ h ∷ []) (rowsText h w ps) (le-refl widest) (wide, (high, tt)) in
       let first = line-found 68 widest (d ∷ []) (lineText 70 (w ∷ h ∷ []) ++ rowsText h w ps) (le-refl widest) (numbered, tt) in
@@ -311,8 +301,15 @@ text-accepted d w h ps room numbered wide high many dim size fit =
     let width-is = ap (λ (l : List ℕ). getD l 1 0) values in
     let height-is = ap (λ (l : List ℕ). getD l 2 0) values in
     let area = ap₂ (λ (a b : ℕ). a * b) width-is height-is in
-    accepted (frameText d w h ps) room size (ap (λ (r : Values). r .found) head) (ap (outside 1 longest) width-is ∙ wide) (ap (outside 1 longest) height-is ∙ high)
-    (omega (arith, direction-is)) (ap (λ (r : Values). r .found) rows) (omega (arith, area))
+    rw (
+      le-ltb _ _ size,
+      ap (λ (r : Values). r .found) head,
+      ap (outside 1 longest) width-is ∙ wide,
+      ap (outside 1 longest) height-is ∙ high,
+      ap (ltb 15) direction-is ∙ le-ltb _ _ numbered,
+      ap (λ (r : Values). r .found) rows,
+      ap (ltb room) area ∙ le-ltb _ _ fit,
+    )
 
 -- 'For the input' D 0, F 5 1, R 3 5 5 2 4
 pub input-example : frameText 0 5 1 (3 ∷ 5 ∷ 5 ∷ 2 ∷ 4 ∷ []) ≡

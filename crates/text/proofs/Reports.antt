@@ -1,6 +1,6 @@
 -- What is printed of a line.
 --   signed-below, signed-above   a line number below 0, and one that is not
---   title-put, title-length, title-most    the parts of the `L` line, put one behind the other; how long it is
+--   title-put, title-length, title-most    the parts of the `L` line, put one behind the other; how long it is; title-room, title-ends: they have room
 --   stretches-cons, stretches-none         the `Z` lines, with the first apart; none
 --   report-put, report-length, report-fits the `L` line and the `Z` lines; how long they are; they have room
 --   puts-as                      the same text by another name
@@ -11,7 +11,7 @@
 use mathlib.Core.Path.{_≡_, refl, _∙_}
 use mathlib.Core.Bool.{Bool, true, false, cond, _&&_}
 use mathlib.Core.List.{List, [], _∷_, _++_}
-use Prim.Native.Nat.{ℕ, _+_, _*_, _≤_, zero-le}
+use Prim.Native.Nat.{ℕ, _+_, _*_, _≤_, _<_, zero-le}
 use native.Mathlib.Omega.{arith}
 use lib.Dec.{leb}
 use lib.IntN.{ℤ, pos, natAbs}
@@ -22,14 +22,14 @@ use Rattle.lists.specs.Tables as tables
 use Rattle.lists.specs.Extremes as extremes
 use Rattle.lists.proofs.Cases.{both-left, both-right}
 use Rattle.answer.specs.Limits.{longest}
-use Rattle.stretch.specs.declared.Stretch.{Stretch}
-use Rattle.stretch.specs.Stretches as bright
-use Rattle.stretch.proofs.Counting.{stretches-few}
+use Rattle.bright.specs.declared.Stretch.{Stretch}
+use Rattle.bright.specs.Stretches as bright
+use Rattle.bright.proofs.Counting.{stretches-few}
 use Rattle.text.specs.Decimal.{digits, decimal}
 use Rattle.text.specs.Lines.{tab, feed, fieldsText, lineText, Puts}
 use Rattle.text.specs.Stretches.{signedText, titleText, stretchFields, stretchesText, lineReport, isPrintable, Prints}
 use Rattle.text.proofs.Decimals.{decimal-most}
-use Rattle.text.proofs.Runs.{puts-join, fields-most}
+use Rattle.text.proofs.Runs.{puts-join, puts-length, fields-most}
 use Rattle.text.proofs.Texts.{put-front}
 
 signed-most : (n : ℕ) (b : Bool) → length (cond b (45 ∷ decimal n) (decimal n)) ≤ 21
@@ -52,6 +52,15 @@ module _ (z : ℤ) (n : ℕ) where
 
   pub title-most : length (titleText z n) ≤ 64
   title-most = omega (arith, title-length, signed-most (natAbs z) (ltZ z (pos 0)), decimal-most n)
+
+  -- there is room for the count, and then for the line feed
+  pub title-room : {d d₁ d₂ : List ℕ} {r₁ r₂ : ℕ} → Puts d 0 (76 ∷ tab ∷ []) d₁ r₁ → Puts d₁ r₁ (signedText z) d₂ r₂ → length (titleText z n) ≤ length d
+      → r₂ + length (tab ∷ decimal n) ≤ length d₂
+  title-room p q fit = omega (arith, p .next, puts-length p, q .next, puts-length q, title-length)
+
+  pub title-ends : {d d₁ d₂ d₃ : List ℕ} {r₁ r₂ r₃ : ℕ} → Puts d 0 (76 ∷ tab ∷ []) d₁ r₁ → Puts d₁ r₁ (signedText z) d₂ r₂ → Puts d₂ r₂ (tab ∷ decimal n) d₃ r₃
+      → length (titleText z n) ≤ length d → r₃ < length d₃
+  title-ends p q r fit = omega (arith, p .next, puts-length p, q .next, puts-length q, r .next, puts-length r, title-length)
 
   pub title-put : {d d₁ d₂ d₃ d₄ : List ℕ} {r₁ r₂ r₃ r₄ : ℕ} → Puts d 0 (76 ∷ tab ∷ []) d₁ r₁ → Puts d₁ r₁ (signedText z) d₂ r₂ → Puts d₂ r₂ (tab ∷ decimal n) d₃ r₃
       → Puts d₃ r₃ (feed ∷ []) d₄ r₄ → Puts d 0 (titleText z n) d₄ r₄

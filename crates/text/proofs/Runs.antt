@@ -1,7 +1,7 @@
 -- Runs of stores, and lines of text.
 --   sets-one, sets-more      a run of stores with one more at its end; one run after the other
 --   sets-join, sets-front    the same for runs from the first entry on; such a run stands at the front
---   puts-none, puts-one      no byte put, one byte put
+--   puts-none, puts-length   no byte put; the length stays
 --   puts-join                one text put behind another
 --   Left                     what is left to put of a text, where a part of it stands; left-start, left-more, left-end, left-room
 --   fields-cons, fields-end  what follows place i of the fields, with the first apart; behind the last nothing does
@@ -18,7 +18,7 @@ use native.Mathlib.Nat.{add-zero, add-suc, suc-add, le-of-eq}
 use native.Mathlib.Numerals.{add-one}
 use native.Mathlib.Omega.{arith}
 use lib.ListN.{length, set, getD, drop, length-append}
-use lib.Seq.{sets, sets-eq, drop-cons, drop-length}
+use lib.Seq.{sets, sets-eq, length-sets, drop-cons, drop-length}
 use Rattle.lists.specs.Stores.{front}
 use Rattle.lists.specs.Tables.{each}
 use Rattle.text.specs.Decimal.{decimal}
@@ -52,8 +52,8 @@ puts-join {d} {d₁} {d₂} {at} {r₁} {r₂} {xs} {ys} p q =
       wrote = q .wrote ∙ rw (p .wrote, p .next) (sets-more d at xs ys);
     }
 
-pub puts-one : (d : List ℕ) (at a : ℕ) → Puts d at (a ∷ []) (set d at a) (at + 1)
-puts-one d at a = record { next = refl; wrote = refl }
+pub puts-length : {d d′ : List ℕ} {at r : ℕ} {xs : List ℕ} → Puts d at xs d′ r → length d′ ≡ length d
+puts-length {d} {d′} {at} {r} {xs} p = ap length (p .wrote) ∙ length-sets d at xs
 
 -- of the text `all` from `at` on, `rest` is left to put from r on
 pub record Left (d : List ℕ) (at : ℕ) (all d′ : List ℕ) (r : ℕ) (rest : List ℕ) : Type 0 where

@@ -18,8 +18,8 @@ use lib.ListN.{length}
 use lib.Signed.{ltZ}
 use Rattle.lists.specs.Stores.{front}
 use Rattle.answer.specs.Limits.{longest}
-use Rattle.stretch.specs.declared.Stretch.{Stretch}
-use Rattle.stretch.specs.Stretches.{stretches}
+use Rattle.bright.specs.declared.Stretch.{Stretch}
+use Rattle.bright.specs.Stretches.{stretches}
 use Rattle.text.specs.Decimal.{decimal}
 use Rattle.text.specs.Lines.{tab, feed, lineText}
 

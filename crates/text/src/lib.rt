@@ -12,3 +12,5 @@ pub use input::read_input;
 pub use stretches::line_text;
 pub use stretches::refusal_text;
 pub use sums::sums_text;
+
+pub type Pixel = u8;

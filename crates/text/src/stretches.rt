@@ -1,6 +1,8 @@
 // What the program stretches prints of a line, and what both programs print of a refusal.
+use crate::Pixel;
 use crate::decimal::put_number;
 use crate::lines::line_bytes;
+use crate::lines::put_byte;
 use crate::lines::put_field;
 use crate::lines::put_line;
 use answer::LONGEST;
@@ -13,7 +15,7 @@ ghost use lib.Dec.{leb};
 ghost use lib.IntN.{natAbs};
 ghost use lib.ListN.{length};
 ghost use Rattle.answer.specs.Limits.{longest};
-ghost use Rattle.stretch.specs.Stretches.{stretches};
+ghost use Rattle.bright.specs.Stretches.{stretches};
 ghost use Rattle.text.specs.Lines.{Puts};
 ghost use Rattle.text.specs.Stretches.{signedText, titleText, stretchFields, stretchesText, refusalText, isPrintable, Prints, PrintsLine};
 
@@ -34,8 +36,8 @@ fn put_signed(dst: &mut [u8], at: usize, z: i64) -> usize
 {
     let n = size(z);
     if z < 0 {
-        dst[at] = b'-';
-        return put_number(dst, at + 1, n);
+        let digits = put_byte(dst, at, b'-');
+        return put_number(dst, digits, n);
     }
     put_number(dst, at, n)
 }
@@ -45,12 +47,11 @@ fn put_title(dst: &mut [u8], z: i64, pixels: usize) -> usize
     requires { ⌜ length (titleText z pixels) ≤ length (now dst) ⌝ }
     ensures { λ r. ⌜ Puts (now (dst .entry)) 0 (titleText z pixels) (now (dst .exit)) r ⌝ }
 {
-    dst[0] = b'L';
-    dst[1] = b'\t';
-    let count = put_signed(dst, 2, z);
+    let letter = put_byte(dst, 0, b'L');
+    let number = put_byte(dst, letter, b'\t');
+    let count = put_signed(dst, number, z);
     let end = put_field(dst, count, pixels as u64);
-    dst[end] = b'\n';
-    end + 1
+    put_byte(dst, end, b'\n')
 }
 
 fn wide(x: u16) -> u64
@@ -66,7 +67,7 @@ fn stretch_fields(s: Stretch) -> [u64; 4]
 }
 
 // Writes the `Z` lines of a line at `at`. Hands back where the next byte goes.
-fn put_stretches(dst: &mut [u8], at: usize, line: &[u8], scratch: &mut [u8]) -> usize
+fn put_stretches(dst: &mut [u8], at: usize, line: &[Pixel], scratch: &mut [u8]) -> usize
     requires { ⌜ (length (now line) ≤ longest) × (4 * length (now line) ≤ length (now scratch)) × (at + length (stretchesText (stretches (now line))) ≤ length (now dst)) ⌝ }
     ensures { λ r. ⌜ Puts (now (dst .entry)) at (stretchesText (stretches (now (line .entry)))) (now (dst .exit)) r × (length (now (scratch .exit)) ≡ length (now (scratch .entry))) ⌝ }
 {
@@ -99,7 +100,7 @@ fn is_printable(n: usize, spare: usize, room: usize) -> bool
 // Writes what the program stretches prints of the line number z, its `L` line and its `Z` lines, to the front of dst. Hands back its bytes.
 // Where the line is longer than 4,096 pixels, the scratch shorter than 4 bytes a pixel, or the destination shorter than 64 bytes and 86 a pixel,
 // it hands back 0 and changes nothing.
-pub fn line_text(z: i64, line: &[u8], dst: &mut [u8], scratch: &mut [u8]) -> usize
+pub fn line_text(z: i64, line: &[Pixel], dst: &mut [u8], scratch: &mut [u8]) -> usize
     ensures { λ r. ⌜ PrintsLine z (now (line .entry)) (now (dst .entry)) (now (dst .exit)) (now (scratch .entry)) (now (scratch .exit)) r ⌝ }
 {
     if is_printable(line.len(), scratch.len(), dst.len()) {

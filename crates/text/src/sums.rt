@@ -72,10 +72,7 @@ fn refusal(direction: usize, sums: &[u64], room: usize) -> Answer
         return Answer::refused(4, 0);
     }
     let bytes = bytes_of(direction, sums);
-    if room < bytes {
-        return Answer::refused(6, bytes as u64);
-    }
-    Answer::done(bytes as u64)
+    Answer::done(bytes as u64).needing(6, room, bytes)
 }
 
 // Writes the lines of n bins at `at`. Hands back where the next line goes.

@@ -2,75 +2,37 @@
 --   darkest-is, dilated-is, opened-is     a window's darkest pixel, a value of a dilation, an opened pixel; opens-alone: one value alone meets equation (3)
 --   index-is                              where a pixel stands on its own line; entry-in, entry-index: pixel number j of a line is found at j
 --   highest-of, leads-of                  the greatest of sixteen values, and the lowest number that reaches it
---   front-at, front-past                  the values at the front of a destination, and what follows them
 -- Assumes nothing.
 use mathlib.Core.Path.{_≡_, refl, sym, ap, ap₂, subst, _∙_}
 use mathlib.Core.Bool.{Bool, true, false, cond, true≢false, _&&_}
 use mathlib.Core.Logic.{_⊎_, inl, inr}
 use mathlib.Core.List.{List, [], _∷_, List·Memᴰ, List·Memᴰ·head, List·Memᴰ·tail, List·Memᴰ·not-nil, List·Memᴰ·cases-cons}
-use Prim.Native.Nat.{ℕ, zero, suc, _+_, _-_, _≤_, _<_, min, max}
+use Prim.Native.Nat.{ℕ, zero, suc, _+_, _-_, _≤_, _<_, min}
 use native.Mathlib.Nat.{le-antisymm}
 use native.Mathlib.Omega.{arith}
 use borrow.Author.Tests.{leb-true, ltb-true, le-leb, lt-ltb, eqb-true, eq-eqb}
 use lib.Dec.{leb, ltb, eqb}
 use lib.IntN.{ℤ}
-use lib.ListN.{length, getD, drop, length-take, length-drop, List·getD-append}
-use lib.Seq.{getD-take, getD-drop, getD-append-add}
+use lib.ListN.{length, getD, drop, length-take, length-drop}
+use lib.Seq.{getD-take, getD-drop}
 use Rattle.lists.specs.Tables.{those, table}
 use Rattle.lists.specs.Extremes.{least, greatest}
-use Rattle.lists.specs.Stores.{front}
 use Rattle.lists.proofs.Cases.{less-or-not, both, both-left, both-right}
 use Rattle.lists.proofs.Tables.{length-table, getD-table}
-use Rattle.lists.proofs.Extremes.{le-those, least-mem}
-use Rattle.lists.proofs.Picks.{those-mem, those-in}
+use Rattle.lists.proofs.Members.{mem-at}
+use Rattle.lists.proofs.Extremes.{le-those, least-mem, least-in, least-mem-of}
+use Rattle.lists.proofs.Picks.{those-mem, those-in, those-reached}
 use Rattle.line.specs.Windows.{window, darkest, holds, onLine, dilatedAt, openedAt}
 use Rattle.line.proofs.Windows.{darkest-le, le-darkest, le-dilated-at, le-opened-at}
 use Rattle.frame.specs.declared.direction.Direction.{Direction}
 use Rattle.frame.specs.declared.shape.Shape.{Shape}
 use Rattle.frame.specs.Direction.{shallow}
-use Rattle.frame.specs.Lines.{Pixel, at, lineOf, pixels}
+use Rattle.frame.specs.Lines.{Pixel, at, lineOf, pixels, samePixel, indexIn}
 use Rattle.frame.specs.Sweep.{Accepted}
 use Rattle.frame.proofs.Walks.{spot}
 use Rattle.frame.proofs.Pixels.{on-its-line, line-interval}
-use Rattle.strips.specs.Pixels.{samePixel, indexIn}
 use Rattle.opening.specs.Pixels.{firstGreatest}
 use Rattle.theorems.specs.Equation.{Holding, Darkest, Dilates, Opens, Place, Highest, Leads}
-
--- ---- the least and the greatest are reached
-
-least-in : (x : ℕ) (xs : List ℕ) → List·Memᴰ (least (x ∷ xs)) (x ∷ xs)
-unfolding least
-least-in x [] = List·Memᴰ·head refl
-least-in x (y ∷ ys) = go (least-in y ys) (less-or-not x (least (y ∷ ys)))
-  where
-    go : List·Memᴰ (least (y ∷ ys)) (y ∷ ys) → (x < least (y ∷ ys)) ⊎ (least (y ∷ ys) ≤ x) → List·Memᴰ (min x (least (y ∷ ys))) (x ∷ (y ∷ ys))
-    go m (inl lo) = let e : min x (least (y ∷ ys)) ≡ x = omega arith in List·Memᴰ·head e
-    go m (inr hi) = let e : least (y ∷ ys) ≡ min x (least (y ∷ ys)) = omega arith in List·Memᴰ·tail (subst (λ (v : ℕ). List·Memᴰ v (y ∷ ys)) e m)
-
-least-mem-of : (a : ℕ) (l : List ℕ) → List·Memᴰ a l → List·Memᴰ (least l) l
-least-mem-of a [] m = absurd (List·Memᴰ·not-nil m)
-least-mem-of a (x ∷ xs) m = least-in x xs
-
-greatest-in : (x : ℕ) (xs : List ℕ) → List·Memᴰ (greatest (x ∷ xs)) (x ∷ xs)
-unfolding greatest
-greatest-in x [] = let e : max x 0 ≡ x = omega arith in List·Memᴰ·head e
-greatest-in x (y ∷ ys) = go (greatest-in y ys) (less-or-not x (greatest (y ∷ ys)))
-  where
-    go : List·Memᴰ (greatest (y ∷ ys)) (y ∷ ys) → (x < greatest (y ∷ ys)) ⊎ (greatest (y ∷ ys) ≤ x) → List·Memᴰ (max x (greatest (y ∷ ys))) (x ∷ (y ∷ ys))
-    go m (inr lo) = let e : max x (greatest (y ∷ ys)) ≡ x = omega arith in List·Memᴰ·head e
-    go m (inl hi) = let e : greatest (y ∷ ys) ≡ max x (greatest (y ∷ ys)) = omega arith in List·Memᴰ·tail (subst (λ (v : ℕ). List·Memᴰ v (y ∷ ys)) e m)
-
-greatest-none-or : (l : List ℕ) → (l ≡ []) ⊎ List·Memᴰ (greatest l) l
-greatest-none-or [] = inl refl
-greatest-none-or (x ∷ xs) = inr (greatest-in x xs)
-
-mem-at : (a : ℕ) (l : List ℕ) → List·Memᴰ a l → (j : ℕ) × (j < length l) × (getD l j 0 ≡ a)
-mem-at a [] m = absurd (List·Memᴰ·not-nil m)
-mem-at a (b ∷ l) m = go (mem-at a l) (List·Memᴰ·cases-cons m)
-  where
-    go : (List·Memᴰ a l → (j : ℕ) × (j < length l) × (getD l j 0 ≡ a)) → (a ≡ b) ⊎ List·Memᴰ a l → (j : ℕ) × (j < length (b ∷ l)) × (getD (b ∷ l) j 0 ≡ a)
-    go ih (inl e) = (0, omega arith, sym e)
-    go ih (inr n) = let r = ih n in (suc (r .0), omega (arith, r .1), r .2)
 
 -- ---- windows
 
@@ -86,17 +48,6 @@ darkest-is f i L some fit = record { below = λ j lo hi. darkest-le f i L j fit 
         let r = mem-at (darkest f i L) (window f i L) (rw e (least-in v vs)) in
         let l : r .0 < L = omega (arith, r .1, length-window f i L fit) in
         (i + r .0, omega arith, omega arith, sym (getD-take L (drop i f) (r .0) 0 l ∙ getD-drop i f (r .0) 0) ∙ r .2)
-
--- the greatest of those values that a test picks is one of them, and 0 where there is none
-those-reached : (p : ℕ → Bool) (g : ℕ → ℕ) (n : ℕ)
-    → ((i : ℕ) × (i < n) × (p i ≡ true) × (g i ≡ greatest (those p g n))) ⊎ (((i : ℕ) → i < n → p i ≡ true → ⊥) × (greatest (those p g n) ≡ 0))
-unfolding greatest
-those-reached p g n = go (greatest-none-or (those p g n))
-  where
-    go : (those p g n ≡ []) ⊎ List·Memᴰ (greatest (those p g n)) (those p g n)
-        → ((i : ℕ) × (i < n) × (p i ≡ true) × (g i ≡ greatest (those p g n))) ⊎ (((i : ℕ) → i < n → p i ≡ true → ⊥) × (greatest (those p g n) ≡ 0))
-    go (inl e) = inr ((λ i h t. List·Memᴰ·not-nil (subst (List·Memᴰ (g i)) e (those-in p g n i h t))), ap greatest e)
-    go (inr m) = let q = those-mem p g n (greatest (those p g n)) m in inl (q .i, q .below, q .passed, sym (q .is))
 
 held : (L i x : ℕ) → holds L i x ≡ true → (i ≤ x) × (x < i + L)
 held L i x e = (leb-true i x (both-left (leb i x) (ltb x (i + L)) e), ltb-true x (i + L) (both-right (leb i x) (ltb x (i + L)) e))
@@ -235,16 +186,3 @@ leads-of F =
         let test : ℕ → Bool = λ (k : ℕ). eqb (F k) (greatest (table F 16)) in
         let reach : F k ≡ greatest (table F 16) = omega arith in
         absurd (omega (arith, least-mem k (those test (λ (k : ℕ). k) 16) (those-in test (λ (k : ℕ). k) 16 k l (eq-eqb (F k) (greatest (table F 16)) reach))))
-
--- ---- a destination's front
-
-pub front-at : {A : Type 0} (vs dst : List A) (i : ℕ) (d : A) → i < length vs → getD (front vs dst) i d ≡ getD vs i d
-front-at vs dst i d h = List·getD-append vs (drop (length vs) dst) d i h
-
-pub front-past : {A : Type 0} (vs dst : List A) (k : ℕ) (d : A) → length vs ≤ k → getD (front vs dst) k d ≡ getD dst k d
-front-past vs dst k d h =
-    let e : length vs + (k - length vs) ≡ k = omega arith in
-    ap (λ (i : ℕ). getD (front vs dst) i d) (sym e)
-    ∙ getD-append-add vs (drop (length vs) dst) (k - length vs) d
-    ∙ getD-drop (length vs) dst (k - length vs) d
-    ∙ ap (λ (i : ℕ). getD dst i d) e

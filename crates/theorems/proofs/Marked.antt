@@ -7,7 +7,7 @@ use Rattle.lists.specs.Tables as tables
 use Rattle.lists.specs.Extremes as extremes
 use Rattle.line.specs.Windows as windows
 use Rattle.frame.specs.Lines as lines
-use Rattle.stretch.specs.Stretches as stretching
+use Rattle.bright.specs.Stretches as stretching
 use Rattle.theorems.specs.Marked.{Example, marked}
 
 pub marked-hold : map (λ (e : Example). e .computed) marked ≡ map (λ (e : Example). e .stated) marked

@@ -15,6 +15,7 @@ use lib.IntN.{ℤ}
 use lib.ListN.{length, getD, length-map}
 use lib.Seq.{ext-getD}
 use Rattle.lists.specs.Stores.{front}
+use Rattle.lists.proofs.Stores.{front-at, front-past}
 use Rattle.answer.specs.declared.Answer.{Answer}
 use Rattle.answer.proofs.Rules.{after-done}
 use Rattle.line.specs.Windows.{erodedCount, eroded, dilatedCount, dilated, opened}
@@ -27,17 +28,16 @@ use Rattle.line.proofs.Laws.{opened-below}
 use Rattle.frame.specs.declared.direction.Direction.{Direction}
 use Rattle.frame.specs.declared.shape.Shape.{Shape}
 use Rattle.frame.specs.Direction.{numberedOf}
-use Rattle.frame.specs.Lines.{Pixel, at, lineOf, pixels, place, gathered, lineRead, pixelsFor}
+use Rattle.frame.specs.Lines.{Pixel, at, lineOf, pixels, place, gathered, lineRead, pixelsFor, indexIn}
 use Rattle.frame.proofs.Pixels.{its-line}
 use Rattle.frame.proofs.ByLines.{Gap}
-use Rattle.strips.specs.Pixels.{indexIn, openedPixel}
-use Rattle.opening.specs.Pixels.{inDirection}
+use Rattle.opening.specs.Pixels.{openedPixel, inDirection}
 use Rattle.opening.specs.Frames.{OpensFrame}
 use Rattle.opening.specs.Sixteen.{FindsHighest}
 use Rattle.opening.specs.Directions.{FindsDirections}
 use Rattle.opening.proofs.Calls.{open-ready}
 use Rattle.theorems.specs.Equation.{Darkest, Dilates, Opens, OpenedOn, Highest, Leads}
-use Rattle.theorems.proofs.Facts.{darkest-is, dilated-is, opened-is, index-is, entry-in, entry-index, highest-of, leads-of, front-at, front-past}
+use Rattle.theorems.proofs.Facts.{darkest-is, dilated-is, opened-is, index-is, entry-in, entry-index, highest-of, leads-of}
 
 -- ---- lines
 

@@ -1,14 +1,14 @@
 -- 'It is shown that one input allows one outcome only; scratch after a done call is the exception.' For each call: two outcomes that its contract allows
 -- of one input are the same. What scratch holds after a refusal is in Refusals: it is unchanged.
 --   erode-once, dilate-once, open-line-once
---   gather-once, scatter-once
+--   gather-once, scatter-once, raise-once
 --   open-frame-once, highest-once, directions-once, host-once
 --   list-once, next-once
 --   sums-of-line-once, sums-of-frame-once, rose-once
 --   sums-text-once, read-input-once, line-text-once, refusal-text-once
--- The contract of every other call is an equation `answer ≡ definition`, which one value alone meets: `row`, `lines_of`, `sweep_of`, `span_of`,
--- `numbered`, `turned`, `is_shallow`, `is_direction`, `is_frame`, `bytes`, `strip_bytes`, `begin`, `count`, `rose_refusal`, `summarize`, `is_outside`,
--- `growth`, `Answer::done`, `Answer::refused`. Engines has the calls that only other crates of the library make.
+-- The contract of every other call is an equation `answer ≡ definition`, which one value alone meets: `row`, `lines_of`, `line_number`, `sweep_of`, `track_of`,
+-- `shift_at`, `numbered`, `turned`, `is_shallow`, `goes_down`, `is_direction`, `is_frame`, `bytes`, `scratch`, `gapless`, `begin`, `count`, `rose_refusal`,
+-- `summarize`, `is_outside`, `growth`, `open_in_place`, `done`, `refused`, `unless`, `needing`. Engines has the calls that only other crates of the library make.
 -- Assumes nothing.
 use mathlib.Core.Path.{_≡_, sym, ap, _∙_}
 use mathlib.Core.Bool.{Bool}
@@ -27,19 +27,19 @@ use Rattle.line.proofs.Laws as line
 use Rattle.frame.specs.declared.direction.Direction.{Direction}
 use Rattle.frame.specs.declared.shape.Shape.{Shape}
 use Rattle.frame.specs.Lines.{pixels, place, lineRead}
-use Rattle.frame.specs.Gathering.{Gathers}
-use Rattle.frame.specs.Scattering.{stored, Scatters}
+use Rattle.gathering.specs.Gathering.{Gathers}
+use Rattle.gathering.specs.Scattering.{stored, raised, Scatters, Raises}
 use Rattle.opening.specs.Frames.{OpensFrame}
 use Rattle.opening.specs.Sixteen.{FindsHighest}
 use Rattle.opening.specs.Directions.{FindsDirections}
 use Rattle.opening.specs.Host.{HostOpens}
 use Rattle.opening.proofs.Laws as opening
-use Rattle.stretch.specs.declared.Stretch.{Stretch}
-use Rattle.stretch.specs.declared.Place.{Place}
-use Rattle.stretch.specs.declared.Step.{Step}
-use Rattle.stretch.specs.Generator.{coming, Follows}
-use Rattle.stretch.specs.Listing.{ListsLine}
-use Rattle.stretch.proofs.Once.{lists-once, follows-once}
+use Rattle.bright.specs.declared.Stretch.{Stretch}
+use Rattle.bright.specs.declared.Place.{Place}
+use Rattle.bright.specs.declared.Step.{Step}
+use Rattle.bright.specs.Generator.{Layout, coming, Follows}
+use Rattle.bright.specs.Listing.{ListsLine}
+use Rattle.bright.proofs.Once.{lists-once, follows-once}
 use Rattle.sizes.specs.Sums.{lineSums, frameSums}
 use Rattle.sizes.specs.Line.{SumsLine}
 use Rattle.sizes.specs.Frame.{SumsFrame}
@@ -79,6 +79,11 @@ module _ {src : List ℕ} {sh : Shape} {d : Direction} {k : ℤ} {dst dst₁ dst
       let e : a₁ ≡ a₂ = p .answers ∙ sym (q .answers) in
       (e, alike (stored (map (place sh) (pixels sh d k)) src dst) dst e (p .written) (q .written))
 
+  pub raise-once : Raises src sh d k dst dst₁ a₁ → Raises src sh d k dst dst₂ a₂ → (a₁ ≡ a₂) × (dst₁ ≡ dst₂)
+  raise-once p q =
+      let e : a₁ ≡ a₂ = p .answers ∙ sym (q .answers) in
+      (e, alike (raised (map (place sh) (pixels sh d k)) src dst) dst e (p .written) (q .written))
+
 module _ {f : List ℕ} {sh : Shape} {L : ℕ} {g g₁ g₂ t t₁ t₂ : List ℕ} where
   pub open-frame-once : {d : Direction} {a₁ a₂ : Answer} → OpensFrame f sh d L g g₁ t t₁ a₁ → OpensFrame f sh d L g g₂ t t₂ a₂ → (a₁ ≡ a₂) × (g₁ ≡ g₂)
   open-frame-once = opening.opens-once
@@ -99,8 +104,8 @@ pub list-once : {f : List ℕ} {table table₁ table₂ : List Stretch} {t t₁ 
 list-once = lists-once
 
 -- the place and the scratch that a step leaves are settled by what comes from there
-pub next-once : {f t : List ℕ} {p : Place} {t₁ t₂ : List ℕ} {r₁ r₂ : Step} → Follows f t p t₁ r₁ → Follows f t p t₂ r₂
-    → (r₁ .found ≡ r₂ .found) × (r₁ .stretch ≡ r₂ .stretch) × (coming f t₁ (r₁ .place) ≡ coming f t₂ (r₂ .place))
+pub next-once : {run : Layout} {f t : List ℕ} {p : Place} {t₁ t₂ : List ℕ} {r₁ r₂ : Step} → Follows run f t p t₁ r₁ → Follows run f t p t₂ r₂
+    → (r₁ .found ≡ r₂ .found) × (r₁ .stretch ≡ r₂ .stretch) × (coming run f t₁ (r₁ .place) ≡ coming run f t₂ (r₂ .place))
 next-once = follows-once
 
 -- ---- size sums

@@ -1,6 +1,6 @@
 -- Demand 1, call by call, from the contract alone: done if and only if no rule is broken; else the first broken rule's answer, and every lent buffer as it was.
 --   erode-settled, dilate-settled, open-line-settled
---   gather-settled, scatter-settled
+--   gather-settled, scatter-settled, raise-settled
 --   open-frame-settled, highest-settled, directions-settled, host-settled
 --   list-settled
 --   sums-of-line-settled, sums-of-frame-settled, rose-settled, summary-settled
@@ -14,8 +14,8 @@ use Prim.Native.Nat.{ℕ, _+_, _*_, _^_}
 use lib.ListN.{length}
 use lib.IntN.{ℤ}
 use Rattle.answer.specs.declared.Answer.{Answer}
-use Rattle.answer.specs.Rules.{Rule, done, refusal, answer}
-use Rattle.answer.proofs.Rules.{Kept, numbered, kept, after-refused}
+use Rattle.answer.specs.Rules.{Rule, refusal, answer}
+use Rattle.answer.proofs.Rules.{numbered, kept, done-kept, after-refused}
 use Rattle.line.specs.Windows.{erodedCount, dilatedCount}
 use Rattle.line.specs.Erosion.{erodeRules, ErodesLine}
 use Rattle.line.specs.Dilation.{dilateRules, DilatesLine}
@@ -24,15 +24,15 @@ use Rattle.line.specs.Opening.{OpensLine}
 use Rattle.frame.specs.declared.direction.Direction.{Direction}
 use Rattle.frame.specs.declared.shape.Shape.{Shape}
 use Rattle.frame.specs.Lines.{pixels}
-use Rattle.frame.specs.Gathering.{gatherRules, Gathers}
-use Rattle.frame.specs.Scattering.{scatterRules, Scatters}
+use Rattle.gathering.specs.Gathering.{gatherRules, Gathers}
+use Rattle.gathering.specs.Scattering.{scatterRules, Scatters, Raises}
 use Rattle.opening.specs.Frames.{openRules, OpensFrame}
 use Rattle.opening.specs.Sixteen.{highestRules, FindsHighest}
 use Rattle.opening.specs.Directions.{directionRules, FindsDirections}
 use Rattle.opening.specs.Host.{HostOpens}
-use Rattle.stretch.specs.declared.Stretch.{Stretch}
-use Rattle.stretch.specs.Stretches.{stretches}
-use Rattle.stretch.specs.Listing.{listRules, ListsLine}
+use Rattle.bright.specs.declared.Stretch.{Stretch}
+use Rattle.bright.specs.Stretches.{stretches}
+use Rattle.bright.specs.Listing.{listRules, ListsLine}
 use Rattle.sizes.specs.Line.{lineRules, SumsLine}
 use Rattle.sizes.specs.Frame.{frameRules, SumsFrame}
 use Rattle.sizes.specs.Rose.{roseRules, darkRose, Roses}
@@ -44,10 +44,6 @@ use Rattle.text.specs.Sums.{sumsText, textRules, WritesSums}
 use Rattle.theorems.specs.Settled.{Breaks, Settled}
 
 -- ---- the rules of any call
-
-done-kept : (rs : List Rule) (f : ℕ) → Kept rs → answer rs f ≡ done f
-done-kept [] f k = refl
-done-kept (r ∷ rs) f k = rw (k .0) (done-kept rs f (k .1))
 
 first-broken : (rs : List Rule) (f : ℕ) → (answer rs f .number ≡ 0 → ⊥) → Breaks rs (answer rs f)
 first-broken [] f refused = absurd (refused refl)
@@ -96,6 +92,9 @@ module _ {src : List ℕ} {sh : Shape} {d : Direction} {k : ℤ} {dst dst′ : L
 
   pub scatter-settled : Scatters src sh d k dst dst′ a → Settled (scatterRules sh d k (length src) (length dst)) (length (pixels sh d k)) a (dst′ ≡ dst)
   scatter-settled p = settled _ _ refl (p .answers) (λ r. p .written ∙ after-refused a _ dst r)
+
+  pub raise-settled : Raises src sh d k dst dst′ a → Settled (scatterRules sh d k (length src) (length dst)) (length (pixels sh d k)) a (dst′ ≡ dst)
+  raise-settled p = settled _ _ refl (p .answers) (λ r. p .written ∙ after-refused a _ dst r)
 
 module _ {f : List ℕ} {sh : Shape} {L : ℕ} {g g′ t t′ : List ℕ} where
   pub open-frame-settled : {d : Direction} {a : Answer} → OpensFrame f sh d L g g′ t t′ a

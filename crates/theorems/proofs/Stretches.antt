@@ -19,23 +19,24 @@ use lib.Seq.{take-append-seam}
 use borrow.Author.Tests.{le-ltb}
 use Rattle.lists.specs.Extremes.{greatest}
 use Rattle.lists.specs.Stores.{front}
+use Rattle.lists.proofs.Stores.{front-at, front-past}
 use Rattle.answer.specs.declared.Answer.{Answer}
 use Rattle.answer.specs.Limits.{longest}
 use Rattle.answer.specs.Rules.{done}
 use Rattle.answer.proofs.Rules.{after-done}
 use Rattle.line.specs.Windows.{opened}
-use Rattle.stretch.specs.declared.Stretch.{Stretch}
-use Rattle.stretch.specs.Stretches.{levelOf, stretchOf, stretches}
-use Rattle.stretch.specs.Listing.{ListsLine}
-use Rattle.stretch.proofs.Listed.{Bright, stretch-listed, listed-stretch}
-use Rattle.stretch.proofs.Order.{Later, stretches-ordered, ordered-later, later-differs}
-use Rattle.stretch.proofs.Counting.{stretches-few}
+use Rattle.bright.specs.declared.Stretch.{Stretch}
+use Rattle.bright.specs.Stretches.{levelOf, stretchOf, stretches, Bright, Later}
+use Rattle.bright.specs.Listing.{ListsLine}
+use Rattle.bright.proofs.Listed.{stretch-listed, listed-stretch}
+use Rattle.bright.proofs.Order.{stretches-ordered, ordered-later, later-differs}
+use Rattle.bright.proofs.Counting.{stretches-few}
 use Rattle.bridge.specs.Reach.{reaching}
 use Rattle.bridge.specs.Sums.{binFor, restFor, lightOf}
 use Rattle.bridge.proofs.Openings.{opened-stretches}
 use Rattle.bridge.proofs.Sizes.{bin-stretches, rest-stretches}
 use Rattle.theorems.specs.Equation.{Darkest}
-use Rattle.theorems.proofs.Facts.{darkest-is, front-at, front-past}
+use Rattle.theorems.proofs.Facts.{darkest-is}
 use Rattle.theorems.proofs.Refusals.{list-settled}
 
 pub room-enough : (f : List ℕ) (table : List Stretch) → length f ≤ length table → length (stretches f) ≤ length table

@@ -15,20 +15,21 @@ use Prim.Native.Nat.{ℕ, zero, suc, _-_, _*_, _≤_}
 use native.Mathlib.Omega.{arith}
 use lib.IntN.{ℤ, pos}
 use lib.ListN.{length, getD, take, drop}
-use borrow.Author.Tests.{ltb-false, le-ltb, not-false}
+use borrow.Author.Tests.{ltb-false, not-false}
 use Rattle.lists.specs.Tables as tables
 use Rattle.lists.specs.Extremes as extremes
 use Rattle.lists.specs.Stores.{front}
+use Rattle.lists.proofs.Members.{all-of}
 use Rattle.answer.specs.declared.Answer.{Answer}
 use Rattle.answer.specs.Limits.{longest}
-use Rattle.answer.specs.Rules.{answer, done, after, outside}
-use Rattle.answer.proofs.Rules.{after-done, outside-not}
+use Rattle.answer.specs.Rules.{answer, done, after}
+use Rattle.answer.proofs.Rules.{after-done, outside-not, not-outside}
 use Rattle.line.specs.Windows as windows
 use Rattle.frame.specs.Direction.{numberedOf}
 use Rattle.frame.specs.Shape.{shape}
 use Rattle.frame.specs.Lines as lines
 use Rattle.frame.specs.Lines.{lineRead, linesOf, pixels}
-use Rattle.frame.specs.Gathering.{Gathers}
+use Rattle.gathering.specs.Gathering.{Gathers}
 use Rattle.sizes.specs.Sums.{frameSums}
 use Rattle.sizes.specs.Frame.{SumsFrame}
 use Rattle.text.specs.declared.input.Input.{Input}
@@ -41,7 +42,7 @@ use Rattle.text.specs.Sums.{sumsText, WritesSums}
 use Rattle.text.proofs.Texts.{sums-example}
 use Rattle.text.proofs.Reports.{line-example}
 use Rattle.text.proofs.Frames.{rows-below, rows-many}
-use Rattle.text.proofs.Inputs.{Within, input-example, head-found, frame-written, accepted-text, text-accepted}
+use Rattle.text.proofs.Inputs.{input-example, head-found, frame-written, accepted-text, text-accepted}
 use Rattle.theorems.specs.Marked.{line}
 use Rattle.theorems.specs.Texts.{exampleInput, exampleStretches, exampleSums, Given}
 use Rattle.theorems.proofs.Refusals.{gather-settled, sums-text-settled, read-input-settled}
@@ -109,18 +110,11 @@ module _ {s dst dst′ : List ℕ} {r : Input} (p : ReadsInput s dst dst′ r) w
       } in
       (rowsIn s .values, rw (d-is, w-is, h-is) given, p .written ∙ after-done (r .answer) (front (rowsIn s .values) dst) dst z)
 
-within-all : (most : ℕ) (vs : List ℕ) → ((k : ℕ) → getD vs k 0 ≤ most) → Within most vs
-within-all most [] below = tt
-within-all most (v ∷ vs) below = (below 0, within-all most vs (λ k. below (suc k)))
-
-not-outside : (lo hi n : ℕ) → lo ≤ n → n ≤ hi → outside lo hi n ≡ false
-not-outside lo hi n low high = rw (le-ltb n lo low, le-ltb hi n high)
-
 read-back : (d w h : ℕ) (ps : List ℕ) {dst dst′ : List ℕ} {r : Input} → ReadsInput (frameText d w h ps) dst dst′ r → Given (frameText d w h ps) d w h ps → w * h ≤ length dst
     → (r ≡ record { answer = done 0; direction = d; width = w; height = h }) × (dst′ ≡ front ps dst)
 read-back d w h ps {dst} {dst′} {r} p g room =
     let s = frameText d w h ps in
-    let dim = within-all 255 ps (g .dim) in
+    let dim = all-of (λ (v : ℕ). v ≤ 255) 0 ps (λ k h. g .dim k) in
     let wide = not-outside 1 longest w (g .wide .0) (g .wide .1) in
     let high = not-outside 1 longest h (g .high .0) (g .high .1) in
     let e = text-accepted d w h ps (length dst) (g .numbered) wide high (g .many) dim (g .size) room in

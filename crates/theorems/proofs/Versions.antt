@@ -30,18 +30,18 @@ use Rattle.frame.specs.declared.shape.Shape.{Shape}
 use Rattle.frame.specs.Direction.{dir, along, isDirection}
 use Rattle.frame.specs.Shape.{shape}
 use Rattle.frame.specs.Lines as lines
-use Rattle.frame.specs.Gathering.{Gathers}
-use Rattle.frame.specs.Scattering.{Scatters}
-use Rattle.strips.specs.Pixels as strips
-use Rattle.strips.specs.Pixels.{openedPixel, Painted}
+use Rattle.gathering.specs.Gathering.{Gathers}
+use Rattle.gathering.specs.Scattering.{Scatters, Raises}
+use Rattle.frame.specs.Painted.{Painted}
 use Rattle.opening.specs.Pixels as leading
+use Rattle.opening.specs.Pixels.{openedPixel}
 use Rattle.opening.specs.Frames.{OpensFrame}
 use Rattle.opening.specs.Sixteen.{FindsHighest}
 use Rattle.opening.specs.Directions.{FindsDirections}
-use Rattle.stretch.specs.declared.Stretch.{Stretch}
-use Rattle.stretch.specs.Stretches as stretching
-use Rattle.stretch.specs.Stretches.{stretches}
-use Rattle.stretch.specs.Listing.{ListsLine}
+use Rattle.bright.specs.declared.Stretch.{Stretch}
+use Rattle.bright.specs.Stretches as stretching
+use Rattle.bright.specs.Stretches.{stretches}
+use Rattle.bright.specs.Listing.{ListsLine}
 use Rattle.sizes.specs.Line.{SumsLine}
 use Rattle.sizes.specs.Frame.{SumsFrame}
 use Rattle.sizes.specs.Rose.{darkRose, Roses}
@@ -105,6 +105,10 @@ module _ {g′ : List ℕ} {a : Answer} where
   pub refusing-scatter : Scatters nines small diagonal (pos 0) sixes g′ a → Refused a → ⊥
   unfolding tables.each lines.r
   refusing-scatter p = answered (p .answers) refl
+
+  pub refusing-raise : Raises nines small diagonal (pos 0) sixes g′ a → Refused a → ⊥
+  unfolding tables.each lines.r
+  refusing-raise p = answered (p .answers) refl
 
 module _ {g′ t′ : List ℕ} {a : Answer} where
   pub refusing-open-line : OpensLine line 2 nines g′ spare t′ a → Refused a → ⊥
@@ -182,25 +186,25 @@ painted ok p = p .done (ap (λ (a : Answer). a .number) (p .answers) ∙ rw ok)
 
 module _ {t′ : List ℕ} {a : Answer} where
   pub frame-dark : OpensFrame strand small diagonal 3 sixes (0 ∷ 0 ∷ 0 ∷ 8 ∷ 0 ∷ 0 ∷ 0 ∷ 8 ∷ 0 ∷ 0 ∷ 0 ∷ []) spare t′ a → ⊥
-  unfolding tables.each extremes.least extremes.greatest windows.opened lines.r strips.indexIn strips.openedPixel
+  unfolding tables.each extremes.least extremes.greatest windows.opened lines.r lines.indexIn leading.openedPixel
   frame-dark p = let corner : _≡_ {A = ℕ} 0 9 = painted refl p .pixels 0 0 (omega arith) (omega arith) in omega (arith, corner)
 
   pub frame-copied : OpensFrame strand small diagonal 3 sixes (9 ∷ 1 ∷ 1 ∷ 8 ∷ 1 ∷ 9 ∷ 1 ∷ 8 ∷ 1 ∷ 1 ∷ 9 ∷ []) spare t′ a → ⊥
-  unfolding tables.each extremes.least extremes.greatest windows.opened lines.r strips.indexIn strips.openedPixel
+  unfolding tables.each extremes.least extremes.greatest windows.opened lines.r lines.indexIn leading.openedPixel
   frame-copied p = let beside : _≡_ {A = ℕ} 1 0 = painted refl p .pixels 1 0 (omega arith) (omega arith) in omega (arith, beside)
 
   pub frame-unwritten : OpensFrame strand small diagonal 3 sixes sixes spare t′ a → ⊥
-  unfolding tables.each extremes.least extremes.greatest windows.opened lines.r strips.indexIn strips.openedPixel
+  unfolding tables.each extremes.least extremes.greatest windows.opened lines.r lines.indexIn leading.openedPixel
   frame-unwritten p = let corner : _≡_ {A = ℕ} 6 9 = painted refl p .pixels 0 0 (omega arith) (omega arith) in omega (arith, corner)
 
   -- the first line is row 0
   pub first-row-only : OpensFrame strand small along 3 sixes (1 ∷ 1 ∷ 1 ∷ 8 ∷ 1 ∷ 9 ∷ 1 ∷ 8 ∷ 1 ∷ 1 ∷ 9 ∷ []) spare t′ a → ⊥
-  unfolding tables.each extremes.least extremes.greatest windows.opened lines.r strips.indexIn strips.openedPixel
+  unfolding tables.each extremes.least extremes.greatest windows.opened lines.r lines.indexIn leading.openedPixel
   first-row-only p = let middle : _≡_ {A = ℕ} 9 1 = painted refl p .pixels 1 1 (omega arith) (omega arith) in omega (arith, middle)
 
   -- the first line is number −2, the pixel (2, 0)
   pub first-line-only : OpensFrame strand small diagonal 3 sixes (9 ∷ 1 ∷ 0 ∷ 8 ∷ 1 ∷ 9 ∷ 1 ∷ 8 ∷ 1 ∷ 1 ∷ 9 ∷ []) spare t′ a → ⊥
-  unfolding tables.each extremes.least extremes.greatest windows.opened lines.r strips.indexIn strips.openedPixel
+  unfolding tables.each extremes.least extremes.greatest windows.opened lines.r lines.indexIn leading.openedPixel
   first-line-only p = let beside : _≡_ {A = ℕ} 1 0 = painted refl p .pixels 1 0 (omega arith) (omega arith) in omega (arith, beside)
 
 -- ---- 'a listing with an invented count or only the whole line (demand 3)'
@@ -231,7 +235,7 @@ bar =
 module _ {rest t′ : List ℕ} {a : Answer} where
   -- what is opened across, under the name of along: pixel (0, 0) may be 1, (0, 1) may not
   pub across-for-along : OpensFrame bar small along 3 sixes (1 ∷ 1 ∷ 1 ∷ 8 ∷ 1 ∷ rest) spare t′ a → ⊥
-  unfolding tables.each extremes.least extremes.greatest windows.opened lines.r strips.indexIn strips.openedPixel
+  unfolding tables.each extremes.least extremes.greatest windows.opened lines.r lines.indexIn leading.openedPixel
   across-for-along p =
       let z : a .number ≡ 0 = ap (λ (a : Answer). a .number) (p .answers) in
       let below : _≡_ {A = ℕ} 1 9 = p .done z .pixels 0 1 (omega arith) (omega arith) in
@@ -239,7 +243,7 @@ module _ {rest t′ : List ℕ} {a : Answer} where
 
   -- 3, 4 and 5 all hold the diagonal of a frame of 3 by 3 pixels; the lowest number has it
   pub tie-to-last : FindsDirections strand small 3 sixes (5 ∷ rest) spare t′ a → ⊥
-  unfolding tables.each extremes.least extremes.greatest windows.opened lines.r strips.indexIn strips.openedPixel leading.firstGreatest
+  unfolding tables.each extremes.least extremes.greatest windows.opened lines.r lines.indexIn leading.openedPixel leading.firstGreatest
   tie-to-last p =
       let z : a .number ≡ 0 = ap (λ (a : Answer). a .number) (p .answers) in
       let corner : _≡_ {A = ℕ} 5 3 = p .done z .pixels 0 0 (omega arith) (omega arith) in

@@ -10,8 +10,8 @@ use Rattle.line.specs.Windows.{eroded, dilated, opened}
 use Rattle.frame.specs.Direction.{dir}
 use Rattle.frame.specs.Shape.{shape}
 use Rattle.frame.specs.Lines.{Pixel, at, pixels}
-use Rattle.stretch.specs.declared.Stretch.{Stretch}
-use Rattle.stretch.specs.Stretches.{stretches}
+use Rattle.bright.specs.declared.Stretch.{Stretch}
+use Rattle.bright.specs.Stretches.{stretches}
 
 pub data Values : Type 0 where
   grey : List ℕ → Values

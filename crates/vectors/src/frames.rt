@@ -23,7 +23,7 @@ pub(crate) fn direction_of(c: Case) -> Direction {
 
 // The lent row's length and checksum.
 fn row(src: &[u8], shape: Shape, y: usize) -> Got {
-    let part = frame::row(src, shape, y);
+    let part = gathering::row(src, shape, y);
     Got {
         number: 0,
         figure: part.len() as u64,
@@ -92,8 +92,8 @@ fn openings(c: Case, src: &[u8], dst: &mut [u8], scratch: &mut [u8]) -> Got {
     let shape = shape_of(c);
     let d = direction_of(c);
     match which {
-        20 => answered(frame::gather(src, shape, d, c.line, dst)),
-        21 => answered(frame::scatter(src, shape, d, c.line, dst)),
+        20 => answered(gathering::gather(src, shape, d, c.line, dst)),
+        21 => answered(gathering::scatter(src, shape, d, c.line, dst)),
         22 => answered(opening::open_frame(src, shape, d, c.length, dst, scratch)),
         23 => answered(opening::highest(src, shape, c.length, dst, scratch)),
         24 => answered(opening::direction_frame(src, shape, c.length, dst, scratch)),

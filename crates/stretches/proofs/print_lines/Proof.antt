@@ -1,20 +1,14 @@
--- Every line's number is small, so that none wraps.
-use mathlib.Core.Path.{_≡_}
+-- The lines from the first on, up to their count.
 use Prim.Native.Nat.{_-_, _≤_}
-use native.Mathlib.Omega.{arith}
-use mir.Syntax.{w64}
-use mir.Val.{toZ, ofZ}
-use mir.Facts.{toZ-ofZ}
-use Rattle.stretches.proofs.Near.{Near, near}
 use borrow.Author.Needs.{needs}
 use Rattle.stretches.proofs.print_lines.Statement.{statement}
 use Rattle.stretches.proofs.print_lines.Tie as tie
 
 abbrev Inv-loop : tie.InvT-loop
-Inv-loop pixels shape d first count u₀ u = u ≤ count
+Inv-loop pixels shape d count u₀ u = u ≤ count
 
 abbrev μ-loop : tie.MeasureT-loop
-μ-loop pixels shape d first count u₀ u = count - u
+μ-loop pixels shape d count u₀ u = count - u
 
 lines-of-requires : tie.Need-lines-of-requires Inv-loop μ-loop
 lines-of-requires c κs = search needs
@@ -22,12 +16,8 @@ lines-of-requires c κs = search needs
 loop-holds : tie.Need-loop-holds Inv-loop μ-loop
 loop-holds c = search needs
 
-number-of-requires : tie.Need-number-of-requires Inv-loop μ-loop
-number-of-requires c κs =
-    let lines = c .before .before .before .lines-of .result in
-    let small : Near lines = rw (c .before .before .before .lines-of .ensures) (near (c .before .before .before .before .before .args .shape) (c .before .before .before .before .before .args .d)) in
-    let bits : toZ w64 (ofZ w64 (lines .first)) ≡ lines .first = toZ-ofZ (small .fits) in
-    (rw bits (small .first), omega (arith, small .count))
+line-number-requires : tie.Need-line-number-requires Inv-loop μ-loop
+line-number-requires c κs = search needs
 
 print-gathered-requires : tie.Need-print-gathered-requires Inv-loop μ-loop
 print-gathered-requires c κs = search needs
@@ -52,7 +42,7 @@ print-lines-spec =
     μ-loop
     lines-of-requires
     loop-holds
-    number-of-requires
+    line-number-requires
     print-gathered-requires
     add-u
     loop-less

@@ -10,37 +10,31 @@ use borrow.Author.Needs.{needs}
 use Rattle.frame.proofs.span.spanned.Statement.{statement}
 use Rattle.frame.proofs.span.spanned.Tie as tie
 
-by-ends : (s : Sweep) (u c : ℕ) {from end : ℕ} → from ≡ spanFrom s u c → end ≡ spanEnd s u c
-    → record { from = from; count = end - from } ≡ spanning s u c
-by-ends s u c p q = ap₂ (λ (f e : ℕ). record { from = f; count = e - f }) p q
+by-ends : (s : Sweep) (u : ℕ) {from end : ℕ} → from ≡ spanFrom s u → end ≡ spanEnd s u
+    → record { from = from; count = end - from } ≡ spanning s u
+by-ends s u p q = ap₂ (λ (f e : ℕ). record { from = f; count = e - f }) p q
 
 skip-requires : tie.Need-skip-requires
 skip-requires c κs = omega (arith, top-less (c .before .args .s) (c .before .pre .0))
 
-add-past : tie.Need-add-past
-add-past c = omega (arith, top-less (c .before .before .args .s) (c .before .before .pre .0))
-
-sub-past : tie.Need-sub-past
-sub-past c = search needs
-
 past-requires : tie.Need-past-requires
 past-requires c κs = omega (arith, top-less (c .before .before .args .s) (c .before .before .pre .0))
 
-sub-t15 : tie.Need-sub-t15
-sub-t15 c =
+sub-t14 : tie.Need-sub-t14
+sub-t14 c =
     let a = c .before .before .before .args in
     let pre = c .before .before .before .pre in
     let falls = c .before .before .if1 .taken in
-    let from = c .before .skip .ensures ∙ sym (from-falling (a .s) (a .u) (a .lanes) falls) in
-    let end = c .past .ensures ∙ sym (end-falling (a .s) (a .u) (a .lanes) falls) in
-    omega (arith, from, end, span-ordered (a .s) (pre .0) (a .u) (a .lanes) (pre .1) (pre .2))
+    let from = c .before .skip .ensures ∙ sym (from-falling (a .s) (a .u) falls) in
+    let end = c .past .ensures ∙ sym (end-falling (a .s) (a .u) falls) in
+    omega (arith, from, end, span-ordered (a .s) (pre .0) (a .u) (pre .1))
 
 returns : tie.Need-returns
 returns c =
     let a = c .before .before .before .args in
     let falls = c .before .before .if1 .taken in
-    by-ends (a .s) (a .u) (a .lanes)
-    (c .before .skip .ensures ∙ sym (from-falling (a .s) (a .u) (a .lanes) falls)) (c .past .ensures ∙ sym (end-falling (a .s) (a .u) (a .lanes) falls))
+    by-ends (a .s) (a .u)
+    (c .before .skip .ensures ∙ sym (from-falling (a .s) (a .u) falls)) (c .past .ensures ∙ sym (end-falling (a .s) (a .u) falls))
 
 add-skip : tie.Need-add-skip
 add-skip c = omega (arith, top-less (c .before .args .s) (c .before .pre .0))
@@ -48,49 +42,47 @@ add-skip c = omega (arith, top-less (c .before .args .s) (c .before .pre .0))
 skip-requires-2 : tie.Need-skip-requires-2
 skip-requires-2 c κs = omega (arith, top-less (c .before .args .s) (c .before .pre .0))
 
-add-past-2 : tie.Need-add-past-2
-add-past-2 c = omega (arith, top-less (c .before .before .args .s) (c .before .before .pre .0))
+add-past : tie.Need-add-past
+add-past c = omega (arith, top-less (c .before .before .args .s) (c .before .before .pre .0))
+
+sub-past : tie.Need-sub-past
+sub-past c = search needs
 
 sub-past-2 : tie.Need-sub-past-2
 sub-past-2 c = search needs
 
-sub-past-3 : tie.Need-sub-past-3
-sub-past-3 c = search needs
-
 past-requires-2 : tie.Need-past-requires-2
 past-requires-2 c κs = omega (arith, top-less (c .before .before .args .s) (c .before .before .pre .0))
 
-sub-t17 : tie.Need-sub-t17
-sub-t17 c =
+sub-t15 : tie.Need-sub-t15
+sub-t15 c =
     let a = c .before .before .before .args in
     let pre = c .before .before .before .pre in
     let rises = c .before .before .if1 .left in
-    let from = c .before .skip2 .ensures ∙ sym (from-rising (a .s) (a .u) (a .lanes) rises) in
-    let end = c .past2 .ensures ∙ sym (end-rising (a .s) (a .u) (a .lanes) rises) in
-    omega (arith, from, end, span-ordered (a .s) (pre .0) (a .u) (a .lanes) (pre .1) (pre .2))
+    let from = c .before .skip2 .ensures ∙ sym (from-rising (a .s) (a .u) rises) in
+    let end = c .past2 .ensures ∙ sym (end-rising (a .s) (a .u) rises) in
+    omega (arith, from, end, span-ordered (a .s) (pre .0) (a .u) (pre .1))
 
 returns-2 : tie.Need-returns-2
 returns-2 c =
     let a = c .before .before .before .args in
     let rises = c .before .before .if1 .left in
-    by-ends (a .s) (a .u) (a .lanes)
-    (c .before .skip2 .ensures ∙ sym (from-rising (a .s) (a .u) (a .lanes) rises)) (c .past2 .ensures ∙ sym (end-rising (a .s) (a .u) (a .lanes) rises))
+    by-ends (a .s) (a .u)
+    (c .before .skip2 .ensures ∙ sym (from-rising (a .s) (a .u) rises)) (c .past2 .ensures ∙ sym (end-rising (a .s) (a .u) rises))
 
 pub spanned-spec : {M : Type 1} → statement M
 spanned-spec =
     tie.close
     (tie.spec
     skip-requires
-    add-past
-    sub-past
     past-requires
-    sub-t15
+    sub-t14
     returns
     add-skip
     skip-requires-2
-    add-past-2
+    add-past
+    sub-past
     sub-past-2
-    sub-past-3
     past-requires-2
-    sub-t17
+    sub-t15
     returns-2)

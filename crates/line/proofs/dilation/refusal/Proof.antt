@@ -1,11 +1,13 @@
--- Each way out has made the tests of the rules up to its own.
-use mathlib.Core.Path.{sym, _∙_}
+-- Rule 1 by itself, in its two parts, since the count is worked out only of what it accepts; then the others one after the other.
+use mathlib.Core.Path.{refl, sym, _∙_}
 use Prim.Native.Nat.{_≤_, _<_}
 use native.Mathlib.Omega.{arith}
+use lib.ListN.{drop}
 use borrow.Author.Tests.{lt-ltb, le-ltb}
 use Rattle.answer.specs.Limits.{longest}
-use Rattle.answer.proofs.Rules.{outside-not}
+use Rattle.answer.proofs.Rules.{answer-chain, outside-not}
 use Rattle.line.specs.Windows.{dilatedCount}
+use Rattle.line.specs.Dilation.{dilateRules}
 use borrow.Author.Needs.{needs}
 use Rattle.line.proofs.dilation.refusal.Statement.{statement}
 use Rattle.line.proofs.dilation.refusal.Tie as tie
@@ -41,59 +43,38 @@ returns-2 c =
     let long : longest < dilatedCount m L = omega (arith, in-range) in
     c .refused2 .ensures ∙ simp (values, lt-ltb longest (dilatedCount m L) long)
 
-is-outside-requires-2 : tie.Need-is-outside-requires-2
-is-outside-requires-2 c κs = search needs
-
-refused-requires-3 : tie.Need-refused-requires-3
-refused-requires-3 c κs = search needs
-
-returns-3 : tie.Need-returns-3
-returns-3 c =
-    let m = c .before .before .before .before .before .before .args .m in
-    let L = c .before .before .before .before .before .before .args .length in
-    let values = sym (c .before .before .before .before .before .is-outside .ensures) ∙ c .before .before .before .before .if1 .left in
-    let in-range = outside-not 1 longest m values in
-    let short : dilatedCount m L ≤ longest = omega (arith, in-range) in
-    let length = sym (c .before .before .is-outside2 .ensures) ∙ c .before .if3 .taken in
-    c .refused3 .ensures ∙ simp (values, le-ltb longest (dilatedCount m L) short, length)
-
 add-count : tie.Need-add-count
 add-count c =
-    let values = sym (c .before .before .before .before .is-outside .ensures) ∙ c .before .before .before .if1 .left in
-    omega (arith, outside-not 1 longest (c .before .before .before .before .before .args .m) values)
+    let values = sym (c .before .before .is-outside .ensures) ∙ c .before .if1 .left in
+    omega (arith, outside-not 1 longest (c .before .before .before .args .m) values)
 
 sub-count : tie.Need-sub-count
 sub-count c =
-    let values = sym (c .before .before .before .before .is-outside .ensures) ∙ c .before .before .before .if1 .left in
-    omega (arith, outside-not 1 longest (c .before .before .before .before .before .args .m) values)
-
-refused-requires-4 : tie.Need-refused-requires-4
-refused-requires-4 c κs = search needs
-
-returns-4 : tie.Need-returns-4
-returns-4 c =
-    let m = c .before .before .before .before .before .before .before .args .m in
-    let L = c .before .before .before .before .before .before .before .args .length in
-    let values = sym (c .before .before .before .before .before .before .is-outside .ensures) ∙ c .before .before .before .before .before .if1 .left in
-    let in-range = outside-not 1 longest m values in
-    let short : dilatedCount m L ≤ longest = omega (arith, in-range) in
-    let length = sym (c .before .before .before .is-outside2 .ensures) ∙ c .before .before .if3 .left in
-    let room = lt-ltb _ _ (c .before .if4 .taken) in
-    c .refused4 .ensures ∙ simp (values, le-ltb longest (dilatedCount m L) short, length, room)
+    let values = sym (c .before .before .is-outside .ensures) ∙ c .before .if1 .left in
+    omega (arith, outside-not 1 longest (c .before .before .before .args .m) values)
 
 done-requires : tie.Need-done-requires
 done-requires c κs = search needs
 
-returns-5 : tie.Need-returns-5
-returns-5 c =
+is-outside-requires-2 : tie.Need-is-outside-requires-2
+is-outside-requires-2 c κs = search needs
+
+unless-requires : tie.Need-unless-requires
+unless-requires c κs = search needs
+
+needing-requires : tie.Need-needing-requires
+needing-requires c κs = search needs
+
+returns-3 : tie.Need-returns-3
+returns-3 c =
     let m = c .before .before .before .before .before .before .before .args .m in
     let L = c .before .before .before .before .before .before .before .args .length in
+    let room = c .before .before .before .before .before .before .before .args .room in
     let values = sym (c .before .before .before .before .before .before .is-outside .ensures) ∙ c .before .before .before .before .before .if1 .left in
-    let in-range = outside-not 1 longest m values in
-    let short : dilatedCount m L ≤ longest = omega (arith, in-range) in
-    let length = sym (c .before .before .before .is-outside2 .ensures) ∙ c .before .before .if3 .left in
-    let room = le-ltb _ _ (c .before .if4 .left) in
-    c .done .ensures ∙ simp (values, le-ltb longest (dilatedCount m L) short, length, room)
+    let short : dilatedCount m L ≤ longest = omega (arith, outside-not 1 longest m values) in
+    c .needing .ensures
+    ∙ rw (c .before .unless .ensures, c .before .before .before .done .ensures, c .before .before .is-outside2 .ensures, values, le-ltb longest (dilatedCount m L) short)
+    (answer-chain (drop 1 (dilateRules m L room)) (dilatedCount m L) refl)
 
 pub refusal-spec : {M : Type 1} → statement M
 refusal-spec =
@@ -106,12 +87,10 @@ refusal-spec =
     add-if2
     refused-requires-2
     returns-2
-    is-outside-requires-2
-    refused-requires-3
-    returns-3
     add-count
     sub-count
-    refused-requires-4
-    returns-4
     done-requires
-    returns-5)
+    is-outside-requires-2
+    unless-requires
+    needing-requires
+    returns-3)

@@ -1,9 +1,10 @@
--- Each way out has made the tests of the rules up to its own.
-use mathlib.Core.Path.{sym, _∙_}
+-- Rule 1 by itself, since what scratch needs is worked out only of what it accepts; then the others one after the other.
+use mathlib.Core.Path.{refl, sym, _∙_}
 use native.Mathlib.Omega.{arith}
-use borrow.Author.Tests.{lt-ltb, le-ltb}
+use lib.ListN.{drop}
 use Rattle.answer.specs.Limits.{longest}
-use Rattle.answer.proofs.Rules.{outside-not}
+use Rattle.answer.proofs.Rules.{answer-chain, outside-not}
+use Rattle.line.specs.Opening.{openRules}
 use borrow.Author.Needs.{needs}
 use Rattle.line.proofs.opening.refusal.Statement.{statement}
 use Rattle.line.proofs.opening.refusal.Tie as tie
@@ -15,63 +16,35 @@ refused-requires : tie.Need-refused-requires
 refused-requires c κs = search needs
 
 returns : tie.Need-returns
-returns c =
-    let pixels = sym (c .before .before .is-outside .ensures) ∙ c .before .if1 .taken in
-    c .refused .ensures ∙ simp pixels
-
-is-outside-requires-2 : tie.Need-is-outside-requires-2
-is-outside-requires-2 c κs = search needs
-
-refused-requires-2 : tie.Need-refused-requires-2
-refused-requires-2 c κs = search needs
-
-returns-2 : tie.Need-returns-2
-returns-2 c =
-    let pixels = sym (c .before .before .before .before .is-outside .ensures) ∙ c .before .before .before .if1 .left in
-    let length = sym (c .before .before .is-outside2 .ensures) ∙ c .before .if2 .taken in
-    c .refused2 .ensures ∙ simp (pixels, length)
-
-refused-requires-3 : tie.Need-refused-requires-3
-refused-requires-3 c κs = search needs
-
-returns-3 : tie.Need-returns-3
-returns-3 c =
-    let pixels = sym (c .before .before .before .before .before .is-outside .ensures) ∙ c .before .before .before .before .if1 .left in
-    let length = sym (c .before .before .before .is-outside2 .ensures) ∙ c .before .before .if2 .left in
-    let room = lt-ltb _ _ (c .before .if3 .taken) in
-    c .refused3 .ensures ∙ simp (pixels, length, room)
-
-mul-if4 : tie.Need-mul-if4
-mul-if4 c =
-    let pixels = sym (c .before .before .before .before .is-outside .ensures) ∙ c .before .before .before .if1 .left in
-    omega (arith, outside-not 1 longest (c .before .before .before .before .before .args .n) pixels)
-
-mul-refused : tie.Need-mul-refused
-mul-refused c =
-    let pixels = sym (c .before .before .before .before .before .is-outside .ensures) ∙ c .before .before .before .before .if1 .left in
-    omega (arith, outside-not 1 longest (c .before .before .before .before .before .before .args .n) pixels)
-
-refused-requires-4 : tie.Need-refused-requires-4
-refused-requires-4 c κs = search needs
-
-returns-4 : tie.Need-returns-4
-returns-4 c =
-    let pixels = sym (c .before .before .before .before .before .before .is-outside .ensures) ∙ c .before .before .before .before .before .if1 .left in
-    let length = sym (c .before .before .before .before .is-outside2 .ensures) ∙ c .before .before .before .if2 .left in
-    let room = le-ltb _ _ (c .before .before .if3 .left) in
-    let spare = lt-ltb _ _ (c .before .if4 .taken) in
-    c .refused4 .ensures ∙ simp (pixels, length, room, spare)
+returns c = c .refused .ensures ∙ simp (sym (c .before .before .is-outside .ensures) ∙ c .before .if1 .taken)
 
 done-requires : tie.Need-done-requires
 done-requires c κs = search needs
 
-returns-5 : tie.Need-returns-5
-returns-5 c =
+is-outside-requires-2 : tie.Need-is-outside-requires-2
+is-outside-requires-2 c κs = search needs
+
+unless-requires : tie.Need-unless-requires
+unless-requires c κs = search needs
+
+needing-requires : tie.Need-needing-requires
+needing-requires c κs = search needs
+
+mul-needing : tie.Need-mul-needing
+mul-needing c =
+    let pixels = sym (c .before .before .before .before .before .is-outside .ensures) ∙ c .before .before .before .before .if1 .left in
+    omega (arith, outside-not 1 longest (c .before .before .before .before .before .before .args .n) pixels)
+
+needing-requires-2 : tie.Need-needing-requires-2
+needing-requires-2 c κs = search needs
+
+returns-2 : tie.Need-returns-2
+returns-2 c =
+    let args = c .before .before .before .before .before .before .before .args in
     let pixels = sym (c .before .before .before .before .before .before .is-outside .ensures) ∙ c .before .before .before .before .before .if1 .left in
-    let length = sym (c .before .before .before .before .is-outside2 .ensures) ∙ c .before .before .before .if2 .left in
-    let room = le-ltb _ _ (c .before .before .if3 .left) in
-    let spare = le-ltb _ _ (c .before .if4 .left) in
-    c .done .ensures ∙ simp (pixels, length, room, spare)
+    c .needing2 .ensures
+    ∙ rw (c .before .needing .ensures, c .before .before .unless .ensures, c .before .before .before .before .done .ensures, c .before .before .before .is-outside2 .ensures, pixels)
+    (answer-chain (drop 1 (openRules (args .n) (args .length) (args .room) (args .spare))) 0 refl)
 
 pub refusal-spec : {M : Type 1} → statement M
 refusal-spec =
@@ -80,14 +53,10 @@ refusal-spec =
     is-outside-requires
     refused-requires
     returns
-    is-outside-requires-2
-    refused-requires-2
-    returns-2
-    refused-requires-3
-    returns-3
-    mul-if4
-    mul-refused
-    refused-requires-4
-    returns-4
     done-requires
-    returns-5)
+    is-outside-requires-2
+    unless-requires
+    needing-requires
+    mul-needing
+    needing-requires-2
+    returns-2)

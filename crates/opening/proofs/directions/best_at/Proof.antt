@@ -1,9 +1,7 @@
--- Behind the strips there is room by rule 7, and behind a frame's pixels by the test.
-use mathlib.Core.Path.{_∙_}
-use mathlib.Core.Logic.{inl, inr}
+-- Behind a frame's pixels there is room by the test, and else at the front.
 use native.Mathlib.Omega.{arith}
 use Rattle.frame.proofs.Shapes.{framed}
-use Rattle.strips.proofs.Fits.{area-small, bytes-by}
+use Rattle.opening.proofs.Calls.{area-small}
 use borrow.Author.Needs.{needs}
 use Rattle.opening.proofs.directions.best_at.Statement.{statement}
 use Rattle.opening.proofs.directions.best_at.Tie as tie
@@ -14,17 +12,11 @@ mul-pixels c = search needs
 mul-if1 : tie.Need-mul-if1
 mul-if1 c = omega (arith, area-small (framed (c .before .args .shape) (c .before .pre .0)))
 
-strip-bytes-requires : tie.Need-strip-bytes-requires
-strip-bytes-requires c κs = search needs
-
 returns : tie.Need-returns
-returns c =
-    let b = c .before .before .before in
-    let is = c .strip-bytes .ensures ∙ bytes-by (b .args .shape) (b .pre .0) in
-    (omega (arith, is, b .pre .1), inr is)
+returns c = search needs
 
 returns-2 : tie.Need-returns-2
-returns-2 c = (omega arith, inl (omega arith))
+returns-2 c = omega arith
 
 pub best-at-spec : {M : Type 1} → statement M
-best-at-spec = tie.close (tie.spec mul-pixels mul-if1 strip-bytes-requires returns returns-2)
+best-at-spec = tie.close (tie.spec mul-pixels mul-if1 returns returns-2)

@@ -6,13 +6,13 @@ use lib.ListN.{length as size, take, drop}
 use Rattle.lists.specs.Tables.{table}
 use Rattle.lists.specs.Extremes.{greatest}
 use Rattle.frame.specs.declared.direction.Direction.{Direction}
-use Rattle.frame.specs.Shape.{needed}
-use Rattle.frame.proofs.Shapes.{framed}
-use Rattle.strips.specs.Pixels.{openedPixel, Painted}
-use Rattle.strips.specs.Engine.{claims, packed}
-use Rattle.strips.proofs.Paintings.{painted-as, painted-again, painted-stays}
-use Rattle.strips.proofs.Claims.{packed-needed, tail-length, tail-same, best-begins}
-use Rattle.opening.specs.Pixels.{inDirection, firstGreatest}
+use Rattle.frame.specs.Shape.{needed, gapless}
+use Rattle.frame.proofs.Shapes.{framed, gapless-needed}
+use Rattle.frame.specs.Painted.{Painted}
+use Rattle.frame.proofs.Paintings.{painted-as, painted-again, painted-stays}
+use Rattle.gathering.specs.Claiming.{claims}
+use Rattle.opening.specs.Pixels.{openedPixel, inDirection, firstGreatest}
+use Rattle.opening.proofs.Claimings.{tail-size, tail-same, best-begins}
 use Rattle.opening.proofs.Along.{along-opened}
 use Rattle.opening.proofs.Calls.{ready-numbered}
 use Rattle.opening.proofs.Leaders.{greatest-one, greatest-more, first-one, first-more}
@@ -26,13 +26,13 @@ Inv-loop src shape length behind dst₀ scratch₀ width n₀ dst scratch n =
     × (n ≤ 16)
     × (size scratch ≡ size scratch₀)
     × Painted shape (λ (x y : ℕ). firstGreatest (inDirection src shape length x y) n) dst₀ dst
-    × Painted (packed shape) (λ (x y : ℕ). greatest (table (inDirection src shape length x y) n)) (drop behind scratch₀) (drop behind scratch)
+    × Painted (gapless shape) (λ (x y : ℕ). greatest (table (inDirection src shape length x y) n)) (drop behind scratch₀) (drop behind scratch)
 
 abbrev μ-loop : tie.MeasureT-loop
 μ-loop src shape length behind dst₀ scratch₀ width n₀ dst scratch n = 16 - n
 
-darken-requires : tie.Need-darken-requires Inv-loop μ-loop
-darken-requires c κs = (c .before .before .before .before .pre .0 .ok .frame, c .before .before .before .before .pre .0 .target)
+blacken-requires : tie.Need-blacken-requires Inv-loop μ-loop
+blacken-requires c κs = (c .before .before .before .before .pre .0 .ok .frame, c .before .before .before .before .pre .0 .target)
 
 sub-open-rows : tie.Need-sub-open-rows Inv-loop μ-loop
 sub-open-rows c = omega (arith, c .before .before .before .before .before .before .before .pre .1)
@@ -48,8 +48,8 @@ open-rows-requires c κs =
     let a = c .before .before .before .before .before .before .before .before .args in
     let pre = c .before .before .before .before .before .before .before .before .pre in
     let frame = framed (a .shape) (pre .0 .ok .frame) in
-    let room : needed (packed (a .shape)) ≤ size (take (size (a .scratch .now) - a .behind) (drop (a .behind) (a .scratch .now))) =
-    omega (arith, packed-needed (a .shape) (frame .high), tail-length (a .behind) (a .scratch .now), pre .1) in
+    let room : needed (gapless (a .shape)) ≤ size (take (size (a .scratch .now) - a .behind) (drop (a .behind) (a .scratch .now))) =
+    omega (arith, gapless-needed (a .shape) (frame .high), tail-size (a .behind) (a .scratch .now), pre .1) in
     (pre .0 .ok .frame, omega arith, pre .0 .some, pre .0 .source, room)
 
 loop-holds : tie.Need-loop-holds Inv-loop μ-loop
@@ -59,13 +59,13 @@ loop-holds c =
     let rows = c .before .before .open-rows in
     let v : ℕ → ℕ → ℕ → ℕ = inDirection (a .src .now) (a .shape) (a .length) in
     let best =
-    best-begins (a .behind) (a .behind) (a .scratch .now) (rows .last .1 .1 .1 .1 .0) (omega (arith, pre .1)) refl (rows .ensures) in (
+    best-begins (a .behind) (a .scratch .now) (rows .last .1 .1 .1 .1 .0) (omega (arith, pre .1)) (rows .ensures) in (
       omega arith,
       omega arith,
       refl,
-      painted-as _ (painted-stays (c .before .before .before .before .before .before .darken .ensures)) (λ x y h l. sym (first-one (v x y))),
+      painted-as _ (painted-stays (c .before .before .before .before .before .before .blacken .ensures)) (λ x y h l. sym (first-one (v x y))),
       painted-as _ best
-          (λ x y h l. sym (greatest-one (v x y) ∙ along-opened (a .src .now) (a .shape) _ (pre .0 .ok) refl (pre .0 .source) (a .length) x y (pre .0 .some) h l)),
+          (λ x y h l. sym (greatest-one (v x y) ∙ along-opened (a .src .now) (a .shape) _ (pre .0 .ok) refl (pre .0 .source) (a .length) x y h l)),
     )
 
 cast-claim-by : tie.Need-cast-claim-by Inv-loop μ-loop
@@ -80,12 +80,12 @@ claim-by-requires c κs =
     let pre = c .before .before .before .before .before .before .before .before .before .before .before .before .before .before .before .before .pre in
     let loop = c .before .before .before .before .loop in
     let rows = c .before .before .before .before .before .before .before .open-rows in
-    let dark = c .before .before .before .before .before .before .before .before .before .before .before .darken in
+    let dark = c .before .before .before .before .before .before .before .before .before .before .before .blacken in
     let fits = tail-same (a .behind) (a .scratch .now) (rows .last .1 .1 .1 .1 .0) (rows .kept .1 .1 .1 .1 .0) (omega (arith, pre .1)) in
     let ready =
     ready-numbered (a .shape) (a .length) _ _ _ (loop .n) (omega (arith, c .before .before .before .loop-test .taken)) (c .before .before .numbered .ensures)
     (loop .inv .3 .same ∙ dark .kept .1 .0) (loop .inv .2 ∙ fits) (pre .0) in
-    (ready, omega (arith, pre .1, loop .inv .2, fits), pre .2)
+    (ready, omega (arith, pre .1, loop .inv .2, fits))
 
 add-n : tie.Need-add-n Inv-loop μ-loop
 add-n c = omega (arith, c .before .before .before .before .before .before .before .before .loop-test .taken)
@@ -105,7 +105,7 @@ loop-again c =
     let new : Direction → ℕ → ℕ → ℕ = λ d x y. openedPixel (a .src .now) (a .shape) d (a .length) x y in (
       omega arith,
       omega (arith, c .before .before .before .before .before .before .before .before .loop-test .taken),
-      claim .same ∙ loop .inv .2,
+      c .before .before .before .before .claim-by .kept .1 .1 .1 .1 .1 .1 .1 .0 ∙ loop .inv .2,
       painted-as _ (painted-again (loop .inv .3) (claim .holders))
           (λ x y h l.
           ap₂ (λ (m k : ℕ). claims m n (new d x y) k) (loop .inv .4 .pixels x y h l) (loop .inv .3 .pixels x y h l)
@@ -119,7 +119,7 @@ loop-again c =
     )
 
 same-length : tie.Need-same-length Inv-loop μ-loop
-same-length c = c .before .loop .inv .3 .same ∙ c .before .before .before .before .before .before .before .before .darken .kept .1 .0
+same-length c = c .before .loop .inv .3 .same ∙ c .before .before .before .before .before .before .before .before .blacken .kept .1 .0
 
 same-length-2 : tie.Need-same-length-2 Inv-loop μ-loop
 same-length-2 c =
@@ -133,7 +133,7 @@ returns c =
     let a = c .before .before .before .before .before .before .before .before .before .before .before .before .before .args in
     let loop = c .before .loop in
     let all : loop .n ≡ 16 = omega arith in
-    painted-again (c .before .before .before .before .before .before .before .before .darken .ensures)
+    painted-again (c .before .before .before .before .before .before .before .before .blacken .ensures)
     (painted-as _ (loop .inv .3) (λ x y h l. ap (firstGreatest (inDirection (a .src .now) (a .shape) (a .length) x y)) all))
 
 pub directions-into-spec : {M : Type 1} → statement M
@@ -142,7 +142,7 @@ directions-into-spec =
     (tie.spec
     Inv-loop
     μ-loop
-    darken-requires
+    blacken-requires
     sub-open-rows
     part-open-rows-start
     part-open-rows-end

@@ -1,79 +1,90 @@
 -- Along by rows, which are its lines; else the copy, opened where it stands.
 use mathlib.Core.Path.{_≡_, sym, ap, _∙_}
 use Prim.Native.Nat.{ℕ}
+use native.Mathlib.Nat.{le-of-lt}
 use native.Mathlib.Omega.{arith}
+use borrow.Author.Tests.{leb-false, le-leb}
 use lib.IntN.{natAbs}
+use lib.Seq.{length-take-le}
 use mir.Syntax.{w64}
 use mir.Val.{toZ}
-use Rattle.frame.proofs.Signs.{back}
+use Rattle.frame.specs.Shape.{shape}
+use Rattle.frame.proofs.Paintings.{painted-as}
 use Rattle.frame.proofs.Shapes.{framed}
-use Rattle.strips.specs.Pixels.{openedPixel}
-use Rattle.strips.proofs.Paintings.{painted-as}
+use Rattle.frame.proofs.Signs.{back}
+use Rattle.opening.specs.Pixels.{openedPixel}
 use Rattle.opening.proofs.Along.{along-opened}
-use Rattle.opening.proofs.Inplace.{opened-steep, opened-shallow}
+use Rattle.opening.proofs.Inplace.{front-room, opened-down, opened-shallow}
 use borrow.Author.Needs.{needs}
 use Rattle.opening.proofs.frames.opened_into.Statement.{statement}
 use Rattle.opening.proofs.frames.opened_into.Tie as tie
 
 open-rows-requires : tie.Need-open-rows-requires
 open-rows-requires c κs =
-    let pre = c .before .before .before .before .before .before .pre in
-    (pre .ok .frame, framed (c .before .before .before .before .before .before .args .shape) (pre .ok .frame) .past, pre .some, pre .source, pre .target)
+    let a = c .before .before .before .before .before .args in
+    let pre = c .before .before .before .before .before .pre in
+    (pre .0, framed (shape (a .shape .width) (a .shape .height) (a .stride)) (pre .1 .frame) .past, pre .2, pre .3, pre .4)
 
 same-length : tie.Need-same-length
 same-length c = search needs
 
 returns : tie.Need-returns
 returns c =
-    let a = c .before .before .before .before .before .before .before .before .before .args in
-    let pre = c .before .before .before .before .before .before .before .before .before .pre in
+    let a = c .before .before .before .before .before .before .before .before .args in
+    let pre = c .before .before .before .before .before .before .before .before .pre in
     let told = c .before .before .before .before .before .struct-told .given in
-    let flat : natAbs (a .d .q) ≡ 0 = ap natAbs (sym (back (a .d .q) (told .1 .0 .1))) ∙ ap (λ (n : ℕ). natAbs (toZ w64 n))
-    (c .before .before .before .before .if1 .taken) in
+    let flat : natAbs (a .d .q) ≡ 0 =
+    ap natAbs (sym (back (a .d .q) (told .1 .0 .1))) ∙ ap (λ (n : ℕ). natAbs (toZ w64 n)) (c .before .before .before .before .if1 .taken) in
     painted-as (openedPixel (a .src .now) (a .shape) (a .d) (a .length)) (c .before .before .open-rows .ensures)
-    (λ x y h l. sym (along-opened (a .src .now) (a .shape) (a .d) (pre .ok) flat (pre .source) (a .length) x y (pre .some) h l))
+    (λ x y h l.
+    sym (along-opened (a .src .now) (a .shape) (a .d) (record { frame = pre .0; direction = pre .1 .direction }) flat (pre .3) (a .length) x y h l))
 
 open-rows-requires-2 : tie.Need-open-rows-requires-2
 open-rows-requires-2 c κs =
-    let pre = c .before .before .before .before .before .before .pre in
-    (pre .ok .frame, framed (c .before .before .before .before .before .before .args .shape) (pre .ok .frame) .past, omega arith, pre .source, pre .target)
+    let a = c .before .before .before .before .before .args in
+    let pre = c .before .before .before .before .before .pre in
+    (pre .0, framed (shape (a .shape .width) (a .shape .height) (a .stride)) (pre .1 .frame) .past, omega arith, pre .3, pre .4)
 
-is-shallow-requires : tie.Need-is-shallow-requires
-is-shallow-requires c κs = search needs
+goes-down-requires : tie.Need-goes-down-requires
+goes-down-requires c κs = search needs
 
-open-shallow-requires : tie.Need-open-shallow-requires
-open-shallow-requires c κs = search needs
+open-down-requires : tie.Need-open-down-requires
+open-down-requires c κs = search needs
 
 same-length-2 : tie.Need-same-length-2
 same-length-2 c = search needs
 
+returns-2 : tie.Need-returns-2
+returns-2 c =
+    let a = c .before .before .before .before .before .before .before .before .before .before .before .before .before .before .args in
+    let pre = c .before .before .before .before .before .before .before .before .before .before .before .before .before .before .pre in
+    let down = sym (c .before .before .before .before .before .goes-down .ensures) ∙ c .before .before .before .before .if2 .taken in
+    opened-down (a .src .now) (a .shape) (a .d) (a .stride) (pre .0) (pre .3) (pre .1) (c .before .before .before .before .before .before .before .before .open-rows2 .ensures) (a .length) (pre .2) down (pre .4)
+    (c .before .before .open-down .ensures)
+
+array-borrow-prefix-bends : tie.Need-array-borrow-prefix-bends
+array-borrow-prefix-bends c =
+    let b = c .before .before .before .before .before .before .before .before .before .before .before in
+    omega (arith, framed (b .args .shape) (b .pre .0))
+
+slice-aggregate-open-shallow : tie.Need-slice-aggregate-open-shallow
+slice-aggregate-open-shallow c =
+    let b = c .before .before .before .before .before .before .before .before .before .before .before .before in
+    sym (length-take-le _ _ (omega (arith, framed (b .args .shape) (b .pre .0))))
+
+open-shallow-requires : tie.Need-open-shallow-requires
+open-shallow-requires c κs = search needs
+
 same-length-3 : tie.Need-same-length-3
 same-length-3 c = search needs
 
-returns-2 : tie.Need-returns-2
-returns-2 c =
-    let a = c .before .before .before .before .before .before .before .before .before .before .before .before .before .before .before .before .before .before .args in
-    let pre = c .before .before .before .before .before .before .before .before .before .before .before .before .before .before .before .before .before .before .pre in
-    let copy = c .before .before .before .before .before .before .before .before .before .before .before .open-rows2 .ensures in
-    let flat = sym (c .before .before .before .before .before .before .before .before .is-shallow .ensures)
-    ∙ c .before .before .before .before .before .before .before .if2 .taken in
-    opened-shallow (a .src .now) (a .shape) (a .d) (a .shape .stride) (pre .ok .frame) (pre .source) (pre .ok) copy (a .length) (pre .some) flat (pre .target)
-    (c .before .before .before .before .open-shallow .ensures) (omega (arith, pre .scratch))
-
-open-steep-requires : tie.Need-open-steep-requires
-open-steep-requires c κs = search needs
-
-same-length-4 : tie.Need-same-length-4
-same-length-4 c = search needs
-
 returns-3 : tie.Need-returns-3
 returns-3 c =
-    let a = c .before .before .before .before .before .before .before .before .before .before .before .before .before .before .before .args in
-    let pre = c .before .before .before .before .before .before .before .before .before .before .before .before .before .before .before .pre in
-    let copy = c .before .before .before .before .before .before .before .before .open-rows2 .ensures in
-    let steep = sym (c .before .before .before .before .before .is-shallow .ensures) ∙ c .before .before .before .before .if2 .left in
-    opened-steep (a .src .now) (a .shape) (a .d) (a .shape .stride) (pre .ok .frame) (pre .source) (pre .ok) copy (a .length) (pre .some) steep (pre .target)
-    (c .before .before .open-steep .ensures)
+    let a = c .before .before .before .before .before .before .before .before .before .before .before .before .before .before .before .before .args in
+    let pre = c .before .before .before .before .before .before .before .before .before .before .before .before .before .before .before .before .pre in
+    let flat = le-leb (natAbs (a .d .q)) (natAbs (a .d .p)) (le-of-lt (leb-false (natAbs (a .d .p)) (natAbs (a .d .q)) (sym (c .before .before .before .before .before .before .before .goes-down .ensures) ∙ c .before .before .before .before .before .before .if2 .left))) in
+    opened-shallow (a .src .now) (a .shape) (a .d) (a .stride) (pre .0) (pre .3) (pre .1) (c .before .before .before .before .before .before .before .before .before .before .open-rows2 .ensures) (a .length) (pre .2) flat (pre .4)
+    (c .before .before .before .open-shallow .ensures) (front-room _ _ (omega (arith, framed (a .shape) (pre .0))))
 
 pub opened-into-spec : {M : Type 1} → statement M
 opened-into-spec =
@@ -83,11 +94,12 @@ opened-into-spec =
     same-length
     returns
     open-rows-requires-2
-    is-shallow-requires
-    open-shallow-requires
+    goes-down-requires
+    open-down-requires
     same-length-2
-    same-length-3
     returns-2
-    open-steep-requires
-    same-length-4
+    array-borrow-prefix-bends
+    slice-aggregate-open-shallow
+    open-shallow-requires
+    same-length-3
     returns-3)

@@ -6,10 +6,10 @@ use native.Mathlib.Omega.{arith}
 use lib.ListN.{length as size, getD}
 use Rattle.line.specs.Windows.{opened}
 use Rattle.frame.specs.Shape.{shape}
-use Rattle.frame.specs.Rows.{rowOf}
-use Rattle.frame.proofs.Alongs.{row-length}
-use Rattle.strips.specs.Pixels.{Painted}
-use Rattle.strips.proofs.Eights.{steps-le}
+use Rattle.frame.proofs.Alongs.{row-ends}
+use Rattle.gathering.specs.Rows.{rowOf}
+use Rattle.gathering.proofs.LentRows.{row-length}
+use Rattle.frame.specs.Painted.{Painted}
 use Rattle.opening.proofs.Bands.{part-length, rows-none, rows-put, rows-end}
 use borrow.Author.Needs.{needs}
 use Rattle.opening.proofs.rowwise.open_rows.Statement.{statement}
@@ -29,12 +29,12 @@ loop-holds c = (search needs, rows-none _ _ _ _)
 mul-from : tie.Need-mul-from Inv-loop μ-loop
 mul-from c =
     let a = c .before .before .before .before .before .args in
-    omega (arith, steps-le (c .before .before .loop .y) (a .frame .height - 1) (a .stride) (omega arith))
+    omega (arith, row-ends (shape (a .frame .width) (a .frame .height) (a .stride)) (c .before .before .loop .y) (omega arith))
 
 add-to : tie.Need-add-to Inv-loop μ-loop
 add-to c =
     let a = c .before .before .before .before .before .args in
-    omega (arith, steps-le (c .before .before .loop .y) (a .frame .height - 1) (a .stride) (omega arith))
+    omega (arith, row-ends (shape (a .frame .width) (a .frame .height) (a .stride)) (c .before .before .loop .y) (omega arith))
 
 row-requires : tie.Need-row-requires Inv-loop μ-loop
 row-requires c κs = search needs
@@ -49,7 +49,7 @@ part-open-row-end : tie.Need-part-open-row-end Inv-loop μ-loop
 part-open-row-end c =
     let a = c .before .before .before .before .before .before .args in
     let loop = c .before .before .before .loop in
-    omega (arith, loop .inv .1 .same, steps-le (loop .y) (a .frame .height - 1) (a .stride) (omega arith))
+    omega (arith, loop .inv .1 .same, row-ends (shape (a .frame .width) (a .frame .height) (a .stride)) (loop .y) (omega arith))
 
 open-row-requires : tie.Need-open-row-requires Inv-loop μ-loop
 open-row-requires c κs =
@@ -58,7 +58,7 @@ open-row-requires c κs =
     let loop = c .before .before .before .before .loop in
     let from = loop .y * a .stride in
     let long = row-length (a .src .now) (a .frame) (loop .y) (pre .0) (pre .3) (omega (arith, c .before .before .if1 .taken)) in
-    let fits = steps-le (loop .y) (a .frame .height - 1) (a .stride) (omega (arith, c .before .before .if1 .taken)) in
+    let fits = row-ends (shape (a .frame .width) (a .frame .height) (a .stride)) (loop .y) (omega (arith, c .before .before .if1 .taken)) in
     let row : size (c .before .row .result .now) ≡ a .frame .width = ap size (c .before .row .ensures) ∙ long in
     let part = part-length from (a .frame .width) (loop .dst) (omega (arith, loop .inv .1 .same, fits, pre .4)) in
     (pre .2, part ∙ sym row)
@@ -76,7 +76,7 @@ loop-again c =
     let loop = c .before .before .before .before .before .before .before .loop in
     let from = loop .y * a .stride in
     let taken = c .before .before .before .before .before .if1 .taken in
-    let fits = steps-le (loop .y) (a .frame .height - 1) (a .stride) (omega (arith, taken)) in
+    let fits = row-ends (shape (a .frame .width) (a .frame .height) (a .stride)) (loop .y) (omega (arith, taken)) in
     let part = part-length from (a .frame .width) (loop .dst) (omega (arith, loop .inv .1 .same, fits, pre .4)) in
     let vals = c .before .before .open-row .ensures ∙ ap (λ (l : List ℕ). opened l (a .length)) (c .before .before .before .before .row .ensures) in (
       omega (arith, taken),

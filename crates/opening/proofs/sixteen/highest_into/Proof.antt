@@ -7,9 +7,9 @@ use Rattle.lists.specs.Tables.{table}
 use Rattle.lists.specs.Extremes.{greatest}
 use Rattle.frame.specs.declared.direction.Direction.{Direction}
 use Rattle.frame.proofs.Shapes.{framed}
-use Rattle.strips.specs.Pixels.{openedPixel, Painted}
-use Rattle.strips.proofs.Paintings.{painted-as, painted-again, painted-stays}
-use Rattle.opening.specs.Pixels.{inDirection}
+use Rattle.frame.specs.Painted.{Painted}
+use Rattle.frame.proofs.Paintings.{painted-as, painted-again, painted-stays}
+use Rattle.opening.specs.Pixels.{openedPixel, inDirection}
 use Rattle.opening.proofs.Along.{along-opened}
 use Rattle.opening.proofs.Calls.{ready-numbered}
 use Rattle.opening.proofs.Leaders.{greatest-one, greatest-more}
@@ -43,7 +43,7 @@ loop-holds c =
       painted-as _ along
           (λ x y h l.
           sym (greatest-one (inDirection (a .src .now) (a .shape) (a .length) x y) ∙ along-opened (a .src .now) (a .shape) _ (pre .ok) refl
-          (pre .source) (a .length) x y (pre .some) h l)),
+          (pre .source) (a .length) x y h l)),
     )
 
 numbered-requires : tie.Need-numbered-requires Inv-loop μ-loop

@@ -10,10 +10,10 @@ use Rattle.passes.proofs.block.put_block.Statement.{statement}
 use Rattle.passes.proofs.block.put_block.Tie as tie
 
 abbrev Inv-loop : tie.InvT-loop
-Inv-loop buf₀ at t j₀ buf j = (j ≤ 64) × (length t ≡ 64) × Filled buf₀ buf at (at + j) (λ (k : ℕ). getD t (k - at) 0)
+Inv-loop buf₀ at n t j₀ buf j = (j ≤ n) × (length t ≡ 64) × Filled buf₀ buf at (at + j) (λ (k : ℕ). getD t (k - at) 0)
 
 abbrev μ-loop : tie.MeasureT-loop
-μ-loop buf₀ at t j₀ buf j = 64 - j
+μ-loop buf₀ at n t j₀ buf j = n - j
 
 loop-holds : tie.Need-loop-holds Inv-loop μ-loop
 loop-holds c = (omega arith, search needs, filled-start (filled-none _ _ _) (omega arith))
@@ -35,7 +35,7 @@ loop-less c = search needs
 
 loop-again : tie.Need-loop-again Inv-loop μ-loop
 loop-again c =
-    let t = c .before .before .args .t3 in
+    let t = c .before .before .args .t4 in
     let at = c .before .before .args .at in
     let j = c .before .loop .j in
     let filled = c .before .loop .inv .2 in

@@ -6,7 +6,7 @@ use native.Mathlib.Omega.{arith}
 use lib.Dec.{eqb, ltb}
 use lib.ListN.{length, length-set}
 use Rattle.frame.specs.Lines.{r}
-use Rattle.rows.specs.Passes.{Bends, Rest, Over}
+use Rattle.rows.specs.Slants.{Bends, Rest, Over}
 use Rattle.rows.proofs.Bends.{rest-start, bend-marked, bends-more}
 use borrow.Author.Needs.{needs}
 use Rattle.rows.proofs.marks.mark_columns.Statement.{statement}

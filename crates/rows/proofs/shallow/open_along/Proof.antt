@@ -3,7 +3,8 @@ use Prim.Native.Nat.{zero-le}
 use native.Mathlib.Omega.{arith}
 use Rattle.frame.specs.Sweep.{shift}
 use Rattle.rows.specs.Rows.{spot}
-use Rattle.rows.proofs.Lines.{opened-none, eroded-start, dilated-end}
+use Rattle.rows.proofs.Lines.{opened-none}
+use Rattle.rows.proofs.Growths.{grown-start, grown-turn, grown-opened}
 use Rattle.rows.proofs.Slants.{cleared-lines}
 use borrow.Author.Needs.{needs}
 use Rattle.rows.proofs.shallow.open_along.Statement.{statement}
@@ -22,14 +23,16 @@ returns c =
     opened-none (shift s) (spot s) (s .minors) (s .majors) _ (args .length) (c .before .before .before .before .if1 .taken)
     (cleared-lines s (c .before .before .before .before .before .before .before .before .pre .0 .next) (c .before .before .clear-rows .ensures))
 
-erode-along-requires : tie.Need-erode-along-requires
-erode-along-requires c κs = let pre = c .before .before .before .before .before .before .pre in (pre .0, omega arith, pre .1, omega arith, pre .2, λ i k from in′. absurd (omega arith))
+grow-along-requires : tie.Need-grow-along-requires
+grow-along-requires c κs =
+    let pre = c .before .before .before .before .before .before .pre in
+    (pre .0, pre .1, omega arith, pre .2, λ i k from in′. absurd (omega arith))
 
-dilate-along-requires : tie.Need-dilate-along-requires
-dilate-along-requires c κs =
+grow-along-requires-2 : tie.Need-grow-along-requires-2
+grow-along-requires-2 c κs =
     let pre = c .before .before .before .before .before .before .before .before .before .before .before .before .before .pre in
     let slanted = pre .0 in
-    let eroded = c .before .before .before .before .before .before .erode-along in (
+    let eroded = c .before .before .before .before .before .before .grow-along in (
       record {
         sane = slanted .sane;
         next = slanted .next;
@@ -38,9 +41,8 @@ dilate-along-requires c κs =
       },
       pre .1,
       omega arith,
-      omega arith,
       omega (arith, pre .2, eroded .kept .1),
-      eroded .ensures .1,
+      λ i k from. eroded .ensures .1 i k (omega arith),
     )
 
 same-length-2 : tie.Need-same-length-2
@@ -54,11 +56,9 @@ returns-2 c =
     let args = c .before .before .before .before .before .before .before .before .before .before .before .before .before .before .before .before .before .before .args in
     let s = args .s in
     let buf = args .buf .now in
-    dilated-end (shift s) (spot s) (s .minors) (s .majors) buf (args .length)
-    (c .before .before .before .before .before .before .before .before .before .before .before .before .before .before .before .before .before .before .pre .1)
-    (c .before .before .before .before .dilate-along .ensures .pixels buf buf
-    (c .before .before .before .before .before .before .before .before .before .before .before .erode-along .ensures .0 .lines buf buf
-    (record { pixels = eroded-start _ _ _ _ buf })))
+    let eroded = c .before .before .before .before .before .before .before .before .before .before .before .grow-along .ensures .0 .lines buf buf (grown-start s buf (args .length)) in
+    grown-opened s buf (args .length) (c .before .before .before .before .before .before .before .before .before .before .before .before .before .before .before .before .before .before .pre .1)
+    (c .before .before .before .before .grow-along2 .ensures .0 .lines buf buf (grown-turn s buf (args .length) eroded))
 
 pub open-along-spec : {M : Type 1} → statement M
 open-along-spec =
@@ -67,8 +67,8 @@ open-along-spec =
     clear-rows-requires
     same-length
     returns
-    erode-along-requires
-    dilate-along-requires
+    grow-along-requires
+    grow-along-requires-2
     same-length-2
     same-length-3
     returns-2)

@@ -6,10 +6,11 @@ use lib.IntN.{natAbs}
 use lib.ListN.{length}
 use mir.Syntax.{w64}
 use mir.Val.{toZ}
-use Rattle.frame.specs.Rows.{rowOf}
+use Rattle.gathering.specs.Rows.{rowOf}
 use Rattle.frame.proofs.Signs.{back}
 use Rattle.frame.proofs.Shapes.{framed}
-use Rattle.frame.proofs.Alongs.{row-length, along-count, along-line}
+use Rattle.frame.proofs.Alongs.{along-count}
+use Rattle.gathering.proofs.LentRows.{row-length, along-row}
 use Rattle.sizes.specs.Sums.{lineAt}
 use borrow.Author.Needs.{needs}
 use Rattle.sizes.proofs.frames.add_line_of.Statement.{statement}
@@ -35,7 +36,7 @@ line-is : (c : tie.Then1) → (let a = c .before .before .before .before .before
 line-is c =
     let a = c .before .before .before .before .before .args in
     let pre = c .before .before .before .before .before .pre in
-    along-line (a .shape) (a .d) (pre .0 .ok) (flat c) (a .src .now) (pre .0 .source) (a .u) (there c)
+    along-row (a .shape) (a .d) (pre .0 .ok) (flat c) (a .src .now) (pre .0 .source) (a .u) (there c)
 
 add-line-requires : tie.Need-add-line-requires
 add-line-requires c κs =

@@ -4,18 +4,18 @@ use mathlib.Core.List.{_∷_}
 use native.Mathlib.Omega.{arith}
 use lib.ListN.{length}
 use borrow.Author.Tests.{not-true, not-false}
-use Rattle.stretch.specs.Generator.{coming}
-use Rattle.stretch.proofs.Steps.{coming-beginning, coming-none}
+use Rattle.bright.specs.Generator.{run8, coming}
+use Rattle.bright.proofs.Steps.{coming-beginning, coming-none}
 use Rattle.sizes.proofs.Lights.{Adding, adding-start, adding-sound, adding-more, adding-end, adding-modest}
 use borrow.Author.Needs.{needs}
 use Rattle.sizes.proofs.lines.add_line.Statement.{statement}
 use Rattle.sizes.proofs.lines.add_line.Tie as tie
 
 abbrev Inv-loop : tie.InvT-loop
-Inv-loop line sums₀ scratch₀ at₀ sums scratch at = (length scratch ≡ length scratch₀) × Adding line sums₀ (coming line scratch at) sums
+Inv-loop line sums₀ scratch₀ at₀ sums scratch at = (length scratch ≡ length scratch₀) × Adding line sums₀ (coming run8 line scratch at) sums
 
 abbrev μ-loop : tie.MeasureT-loop
-μ-loop line sums₀ scratch₀ at₀ sums scratch at = length (coming line scratch at)
+μ-loop line sums₀ scratch₀ at₀ sums scratch at = length (coming run8 line scratch at)
 
 begin-requires : tie.Need-begin-requires Inv-loop μ-loop
 begin-requires c κs = search needs
@@ -25,7 +25,7 @@ loop-holds c =
     let f = c .before .before .before .before .args .line .now in
     let s₀ = c .before .before .before .before .args .sums .now in
     let pre = c .before .before .before .before .pre in
-    (refl, rw (c .begin .ensures, coming-beginning f (c .before .before .before .before .args .scratch .now) (pre .0) (pre .1)) (adding-start f s₀ (pre .0)))
+    (refl, rw (c .begin .ensures, coming-beginning run8 f (c .before .before .before .before .args .scratch .now) (pre .0) (pre .1)) (adding-start f s₀ (pre .0)))
 
 next-requires : tie.Need-next-requires Inv-loop μ-loop
 next-requires c κs = search needs
@@ -44,7 +44,7 @@ returns c =
     let some = entry .pre .2 in
     let at = c .before .before .before .before .before .before .loop in
     let next = c .before .before .before .before .next in
-    let none = coming-none line (at .scratch) (at .at) _ (next .result) (next .ensures) (not-true _ (c .if1 .taken)) in
+    let none = coming-none run8 line (at .scratch) (at .at) _ (next .result) (next .ensures) (not-true _ (c .if1 .taken)) in
     (adding-end line sums some (at .sums) (rw none at (at .inv .1)), next .ensures .kept ∙ at .inv .0)
 
 add-light-requires : tie.Need-add-light-requires Inv-loop μ-loop

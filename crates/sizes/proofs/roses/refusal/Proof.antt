@@ -1,78 +1,17 @@
--- Each way out has made the tests of the rules up to its own.
-use mathlib.Core.Path.{sym, _∙_}
-use borrow.Author.Tests.{not-true, not-false, lt-ltb, le-ltb}
-use Rattle.frame.proofs.Shapes.{needed-by}
+-- The rules of the sums, whose rules 2 and 4 a numbered direction and 33 entries do not break.
+use mathlib.Core.Path.{_∙_}
 use borrow.Author.Needs.{needs}
 use Rattle.sizes.proofs.roses.refusal.Statement.{statement}
 use Rattle.sizes.proofs.roses.refusal.Tie as tie
 
-is-frame-requires : tie.Need-is-frame-requires
-is-frame-requires c κs = search needs
+numbered-requires : tie.Need-numbered-requires
+numbered-requires c κs = search needs
 
-refused-requires : tie.Need-refused-requires
-refused-requires c κs = search needs
+refusal-requires : tie.Need-refusal-requires
+refusal-requires c κs = search needs
 
 returns : tie.Need-returns
-returns c =
-    let frame = sym (c .before .before .is-frame .ensures) ∙ not-true _ (c .before .if1 .taken) in
-    c .refused .ensures ∙ simp frame
-
-bytes-requires : tie.Need-bytes-requires
-bytes-requires c κs = search needs
-
-refused-requires-2 : tie.Need-refused-requires-2
-refused-requires-2 c κs = search needs
-
-returns-2 : tie.Need-returns-2
-returns-2 c =
-    let frame = sym (c .before .before .before .before .is-frame .ensures) ∙ not-false _ (c .before .before .before .if1 .left) in
-    let bytes = c .before .before .bytes .ensures ∙ needed-by (c .before .before .before .before .before .args .shape) frame in
-    let source = rw bytes at (c .before .if2 .taken) in
-    c .refused2 .ensures ∙ simp (bytes, frame, lt-ltb _ _ source)
-
-scratch-for-requires : tie.Need-scratch-for-requires
-scratch-for-requires c κs = sym (c .before .before .before .is-frame .ensures) ∙ not-false _ (c .before .before .if1 .left)
-
-refused-requires-3 : tie.Need-refused-requires-3
-refused-requires-3 c κs = search needs
-
-returns-3 : tie.Need-returns-3
-returns-3 c =
-    let scratched = c .before .before in
-    let sized = scratched .before .before in
-    let framed = sized .before .before in
-    let frame = sym (framed .is-frame .ensures) ∙ not-false _ (sized .before .if1 .left) in
-    let bytes = sized .bytes .ensures ∙ needed-by (framed .before .args .shape) frame in
-    let source = rw bytes at (scratched .before .if2 .left) in
-    let scratch = rw (scratched .scratch-for .ensures) at (c .before .if3 .taken) in
-    c .refused3 .ensures ∙ simp (scratched .scratch-for .ensures, frame, le-ltb _ _ source, lt-ltb _ _ scratch)
-
-done-requires : tie.Need-done-requires
-done-requires c κs = search needs
-
-returns-4 : tie.Need-returns-4
-returns-4 c =
-    let scratched = c .before .before in
-    let sized = scratched .before .before in
-    let framed = sized .before .before in
-    let frame = sym (framed .is-frame .ensures) ∙ not-false _ (sized .before .if1 .left) in
-    let bytes = sized .bytes .ensures ∙ needed-by (framed .before .args .shape) frame in
-    let source = rw bytes at (scratched .before .if2 .left) in
-    let scratch = rw (scratched .scratch-for .ensures) at (c .before .if3 .left) in
-    c .done .ensures ∙ simp (frame, le-ltb _ _ source, le-ltb _ _ scratch)
+returns c = c .refusal .ensures ∙ simp (c .before .numbered .ensures)
 
 pub refusal-spec : {M : Type 1} → statement M
-refusal-spec =
-    tie.close
-    (tie.spec
-    is-frame-requires
-    refused-requires
-    returns
-    bytes-requires
-    refused-requires-2
-    returns-2
-    scratch-for-requires
-    refused-requires-3
-    returns-3
-    done-requires
-    returns-4)
+refusal-spec = tie.close (tie.spec numbered-requires refusal-requires returns)

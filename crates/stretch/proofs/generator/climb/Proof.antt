@@ -2,14 +2,15 @@
 use Prim.Native.Nat.{_-_}
 use native.Mathlib.Omega.{arith}
 use lib.ListN.{length}
-use Rattle.stretch.proofs.Steps.{Climbing, climbing-start, climbing-stops, climbing-end, climbing-more}
+use Rattle.bright.proofs.Steps.{Climbing, climbing-start, climbing-stops, climbing-end, climbing-more}
+use Rattle.bright.specs.Generator.{run8}
 use borrow.Author.Needs.{needs}
 use Rattle.stretch.proofs.generator.climb.Statement.{statement}
 use Rattle.stretch.proofs.generator.climb.Tie as tie
 
 abbrev Inv-loop : tie.InvT-loop
 Inv-loop line scratch₀ read₀ depth₀ top₀ scratch read depth top =
-    Climbing line scratch₀ (record { read = read₀; depth = depth₀ }) scratch read depth top
+    Climbing run8 line scratch₀ (record { read = read₀; depth = depth₀ }) scratch read depth top
 
 abbrev μ-loop : tie.MeasureT-loop
 μ-loop line scratch₀ read₀ depth₀ top₀ scratch read depth top = length line - read
@@ -21,7 +22,7 @@ loop-holds : tie.Need-loop-holds Inv-loop μ-loop
 loop-holds c =
     let entry = c .before .before .before .before in
     let a = entry .args in
-    climbing-start (a .line .now) (a .scratch .now) (a .at) (c .top-level .result) (entry .pre .0) (entry .pre .1) (c .top-level .ensures)
+    climbing-start run8 (a .line .now) (a .scratch .now) (a .at) (c .top-level .result) (entry .pre .0) (entry .pre .1) (c .top-level .ensures)
 
 shared-slice-read-v : tie.Need-shared-slice-read-v Inv-loop μ-loop
 shared-slice-read-v c = search needs
@@ -35,7 +36,7 @@ returns c =
     let entry = head .before .before .before .before .before in
     let l = head .loop in
     let a = entry .args in
-    climbing-stops (a .line .now) (a .scratch .now) (a .at) (l .scratch) (l .read) (l .depth) (l .top) (l .inv) (omega arith)
+    climbing-stops run8 (a .line .now) (a .scratch .now) (a .at) (l .scratch) (l .read) (l .depth) (l .top) (l .inv) (omega arith)
 
 cast-put : tie.Need-cast-put Inv-loop μ-loop
 cast-put c = search needs
@@ -60,7 +61,7 @@ loop-again c =
     let stored = at-put .put in
     let l = head .loop in
     let a = entry .args in
-    climbing-more (a .line .now) (a .scratch .now) (a .at) (l .scratch) (l .read) (l .depth) (l .top) (l .inv) (omega arith) (omega arith)
+    climbing-more run8 (a .line .now) (a .scratch .now) (a .at) (l .scratch) (l .read) (l .depth) (l .top) (l .inv) (omega arith) (omega arith)
     (stored .last .0) (c .grown .result) (stored .kept .0) (stored .ensures) (c .grown .ensures)
 
 same-length-2 : tie.Need-same-length-2 Inv-loop μ-loop
@@ -72,7 +73,7 @@ returns-2 c =
     let entry = head .before .before .before .before .before in
     let l = head .loop in
     let a = entry .args in
-    climbing-end (a .line .now) (a .scratch .now) (a .at) (l .scratch) (l .read) (l .depth) (l .top) (l .inv) (omega arith)
+    climbing-end run8 (a .line .now) (a .scratch .now) (a .at) (l .scratch) (l .read) (l .depth) (l .top) (l .inv) (omega arith)
 
 pub climb-spec : {M : Type 1} → statement M
 climb-spec =

@@ -1,7 +1,8 @@
 -- The topmost run is ended by the line's end, or by the pixel at hand.
 use mathlib.Core.Path.{_∙_}
 use native.Mathlib.Omega.{arith}
-use Rattle.stretch.proofs.Steps.{finds-end, finds-fall}
+use Rattle.bright.proofs.Steps.{finds-end, finds-fall}
+use Rattle.bright.specs.Generator.{run8}
 use borrow.Author.Needs.{needs}
 use Rattle.stretch.proofs.generator.close.Statement.{statement}
 use Rattle.stretch.proofs.generator.close.Tie as tie
@@ -44,7 +45,7 @@ returns c =
     let level = at-level .wide in
     let base = c .wide2 in
     let a = entry .args in
-    finds-end (a .line .now) (a .scratch .now) (a .at) (start .result) (level .result) (base .result)
+    finds-end run8 (a .line .now) (a .scratch .now) (a .at) (start .result) (level .result) (base .result)
     (record { closes = entry .pre; from = start .ensures; below = base .ensures .0 ∙ at-under .top-level2 .ensures })
     (level .ensures .0 ∙ at-top .top-level .ensures) (omega arith)
 
@@ -84,7 +85,7 @@ returns-2 c =
     let base = at-base .wide3 in
     let fell = at-fall .fall in
     let a = entry .args in
-    finds-fall (a .line .now) (a .scratch .now) (a .at) (start .result) (level .result) (under .result)
+    finds-fall run8 (a .line .now) (a .scratch .now) (a .at) (start .result) (level .result) (under .result)
     (record { closes = entry .pre; from = start .ensures; below = under .ensures })
     (level .ensures .0 ∙ at-top .top-level .ensures)
     (fell .last .1 .0) (base .result) (fell .result) (omega (arith, entry .pre .ready .read, not-end .if1 .left))

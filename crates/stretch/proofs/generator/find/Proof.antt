@@ -1,7 +1,8 @@
 -- The line is at its end with no run open, or the climb comes to a run that ends there.
 use mathlib.Core.Path.{_∙_}
 use native.Mathlib.Omega.{arith}
-use Rattle.stretch.proofs.Steps.{follows-none, follows-found}
+use Rattle.bright.proofs.Steps.{follows-none, follows-found}
+use Rattle.bright.specs.Generator.{run8}
 use borrow.Author.Needs.{needs}
 use Rattle.stretch.proofs.generator.find.Statement.{statement}
 use Rattle.stretch.proofs.generator.find.Tie as tie
@@ -22,7 +23,7 @@ returns c =
     let first = at-first .open-first in
     let none = first .ensures .none (c .before .if1 .taken) in
     let a = entry .args in
-    rw (c .nothing .ensures) (follows-none (a .line .now) (a .scratch .now) (a .at) (first .last .1 .0) (entry .pre) (none .0) (none .1))
+    rw (c .nothing .ensures) (follows-none run8 (a .line .now) (a .scratch .now) (a .at) (first .last .1 .0) (entry .pre) (none .0) (none .1))
 
 climb-requires : tie.Need-climb-requires
 climb-requires c κs =
@@ -47,7 +48,7 @@ returns-2 c =
     let climbed = at-climb .climb in
     let closed = at-close .close in
     let a = entry .args in
-    follows-found (a .line .now) (a .scratch .now) (a .at) (entry .pre) (climbed .last .1 .0) (closed .last .1 .0) (climbed .result) (closed .result)
+    follows-found run8 (a .line .now) (a .scratch .now) (a .at) (entry .pre) (climbed .last .1 .0) (closed .last .1 .0) (climbed .result) (closed .result)
     (first .ensures .same ∙ climbed .ensures .same) (closed .ensures) (closed .kept .1 .0 ∙ climbed .kept .1 .0 ∙ first .kept .1 .0)
 
 pub find-spec : {M : Type 1} → statement M

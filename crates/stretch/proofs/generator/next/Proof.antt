@@ -1,6 +1,7 @@
 -- The test of the place decides.
 use mathlib.Core.Path.{sym, _∙_}
-use Rattle.stretch.proofs.Steps.{test-ready, follows-lost}
+use Rattle.bright.proofs.Steps.{test-ready, follows-lost}
+use Rattle.bright.specs.Generator.{run8}
 use borrow.Author.Needs.{needs}
 use Rattle.stretch.proofs.generator.next.Statement.{statement}
 use Rattle.stretch.proofs.generator.next.Tie as tie
@@ -25,7 +26,7 @@ nothing-requires c κs = search needs
 returns-2 : tie.Need-returns-2
 returns-2 c =
     let a = c .before .before .before .before .before .args in
-    rw (c .nothing .ensures) (follows-lost (a .line .now) (a .scratch .now) (a .at) (sym (c .before .before .is-ready .ensures) ∙ c .before .if1 .left))
+    rw (c .nothing .ensures) (follows-lost run8 (a .line .now) (a .scratch .now) (a .at) (sym (c .before .before .is-ready .ensures) ∙ c .before .if1 .left))
 
 pub next-spec : {M : Type 1} → statement M
 next-spec =

@@ -1,7 +1,8 @@
 -- Some run is open already, or the line is at its end, or the pixel opens the first run.
 use mathlib.Core.Path.{refl}
 use lib.ListN.{getD}
-use Rattle.stretch.proofs.Steps.{begins-as, begins-end, begins-first}
+use Rattle.bright.proofs.Steps.{begins-as, begins-end, begins-first}
+use Rattle.bright.specs.Generator.{run8}
 use borrow.Author.Needs.{needs}
 use Rattle.stretch.proofs.generator.open_first.Statement.{statement}
 use Rattle.stretch.proofs.generator.open_first.Tie as tie
@@ -10,13 +11,13 @@ returns : tie.Need-returns
 returns c =
     let entry = c .before .before .before .before in
     let a = entry .args in
-    begins-as (a .line .now) (a .scratch .now) (a .at) (entry .pre) (c .if1 .taken)
+    begins-as run8 (a .line .now) (a .scratch .now) (a .at) (entry .pre) (c .if1 .taken)
 
 returns-2 : tie.Need-returns-2
 returns-2 c =
     let entry = c .before .before .before .before .before in
     let a = entry .args in
-    begins-end (a .line .now) (a .scratch .now) (a .at) (entry .pre) (c .before .if1 .left) (c .if2 .taken)
+    begins-end run8 (a .line .now) (a .scratch .now) (a .at) (entry .pre) (c .before .if1 .left) (c .if2 .taken)
 
 cast-put : tie.Need-cast-put
 cast-put c = search needs
@@ -41,7 +42,7 @@ returns-3 c =
     let entry = none-open .before .before .before .before in
     let stored = at-put .put in
     let a = entry .args in
-    begins-first (a .line .now) (a .scratch .now) (a .at) (entry .pre) (stored .last .0) (getD (a .line .now) (a .at .read) 0)
+    begins-first run8 (a .line .now) (a .scratch .now) (a .at) (entry .pre) (stored .last .0) (getD (a .line .now) (a .at .read) 0)
     (none-open .if1 .left) (not-end .if2 .left) refl (stored .kept .0) (stored .ensures)
 
 pub open-first-spec : {M : Type 1} → statement M

@@ -1,12 +1,13 @@
--- Each way out has made the tests of the rules up to its own; a table of an entry a pixel has room for every stretch.
-use mathlib.Core.Path.{sym, _∙_}
+-- Rule 1 by itself, since what scratch needs is worked out only of what it accepts; then the others one after the other. A table of an entry a pixel has room for every stretch.
+use mathlib.Core.Path.{refl, sym, _∙_}
 use native.Mathlib.Omega.{arith}
-use lib.ListN.{length}
-use borrow.Author.Tests.{lt-ltb, le-ltb}
+use lib.ListN.{length, drop}
+use borrow.Author.Tests.{le-ltb}
 use Rattle.answer.specs.Limits.{longest}
-use Rattle.answer.proofs.Rules.{outside-not}
-use Rattle.stretch.specs.Stretches.{stretches}
-use Rattle.stretch.proofs.Counting.{stretches-few}
+use Rattle.answer.proofs.Rules.{answer-chain, outside-not}
+use Rattle.bright.specs.Stretches.{stretches}
+use Rattle.bright.specs.Listing.{listRules}
+use Rattle.bright.proofs.Counting.{stretches-few}
 use borrow.Author.Needs.{needs}
 use Rattle.stretch.proofs.listing.refusal.Statement.{statement}
 use Rattle.stretch.proofs.listing.refusal.Tie as tie
@@ -18,78 +19,41 @@ refused-requires : tie.Need-refused-requires
 refused-requires c κs = search needs
 
 returns : tie.Need-returns
-returns c =
-    let pixels = sym (c .before .before .is-outside .ensures) ∙ c .before .if1 .taken in
-    c .refused .ensures ∙ simp pixels
-
-mul-if2 : tie.Need-mul-if2
-mul-if2 c =
-    let pixels = sym (c .before .is-outside .ensures) ∙ c .if1 .left in
-    omega (arith, outside-not 1 longest (length (c .before .before .before .args .line .now)) pixels)
-
-mul-refused : tie.Need-mul-refused
-mul-refused c =
-    let past-1 = c .before in
-    let tested = past-1 .before in
-    let pixels = sym (tested .is-outside .ensures) ∙ past-1 .if1 .left in
-    omega (arith, outside-not 1 longest (length (tested .before .before .args .line .now)) pixels)
-
-refused-requires-2 : tie.Need-refused-requires-2
-refused-requires-2 c κs = search needs
-
-returns-2 : tie.Need-returns-2
-returns-2 c =
-    let past-1 = c .before .before in
-    let tested = past-1 .before in
-    let pixels = sym (tested .is-outside .ensures) ∙ past-1 .if1 .left in
-    let spare = lt-ltb _ _ (c .before .if2 .taken) in
-    c .refused2 .ensures ∙ simp (pixels, spare)
+returns c = c .refused .ensures ∙ simp (sym (c .before .before .is-outside .ensures) ∙ c .before .if1 .taken)
 
 done-requires : tie.Need-done-requires
 done-requires c κs = search needs
 
-returns-3 : tie.Need-returns-3
-returns-3 c =
-    let past-7 = c .before .before in
-    let past-1 = past-7 .before in
-    let tested = past-1 .before in
-    let entry = tested .before .before in
-    let pixels = sym (tested .is-outside .ensures) ∙ past-1 .if1 .left in
-    let spare = le-ltb _ _ (past-7 .if2 .left) in
-    let f = entry .args .line .now in
-    let few = le-ltb (entry .args .room) (length (stretches f)) (omega (arith, stretches-few f)) in
-    c .done .ensures ∙ simp (pixels, spare, few)
+mul-needing : tie.Need-mul-needing
+mul-needing c =
+    let pixels = sym (c .before .before .is-outside .ensures) ∙ c .before .if1 .left in
+    omega (arith, outside-not 1 longest (length (c .before .before .before .before .args .line .now)) pixels)
+
+needing-requires : tie.Need-needing-requires
+needing-requires c κs = search needs
+
+returns-2 : tie.Need-returns-2
+returns-2 c =
+    let args = c .before .before .before .before .before .before .args in
+    let f = args .line .now in
+    let pixels = sym (c .before .before .before .before .is-outside .ensures) ∙ c .before .before .before .if1 .left in
+    let few = le-ltb (args .room) (length (stretches f)) (omega (arith, stretches-few f)) in
+    c .before .needing .ensures ∙ rw (c .before .before .done .ensures, pixels, few) refl
 
 count-requires : tie.Need-count-requires
 count-requires c κs = search needs
 
-refused-requires-3 : tie.Need-refused-requires-3
-refused-requires-3 c κs = search needs
+needing-requires-2 : tie.Need-needing-requires-2
+needing-requires-2 c κs = search needs
 
-returns-4 : tie.Need-returns-4
-returns-4 c =
-    let counted = c .before .before in
-    let past-7 = counted .before .before in
-    let past-1 = past-7 .before in
-    let tested = past-1 .before in
-    let pixels = sym (tested .is-outside .ensures) ∙ past-1 .if1 .left in
-    let spare = le-ltb _ _ (past-7 .if2 .left) in
-    let many = lt-ltb _ _ (c .before .if4 .taken) in
-    c .refused3 .ensures ∙ simp (pixels, spare, many, ← counted .count .ensures)
-
-done-requires-2 : tie.Need-done-requires-2
-done-requires-2 c κs = search needs
-
-returns-5 : tie.Need-returns-5
-returns-5 c =
-    let counted = c .before .before in
-    let past-7 = counted .before .before in
-    let past-1 = past-7 .before in
-    let tested = past-1 .before in
-    let pixels = sym (tested .is-outside .ensures) ∙ past-1 .if1 .left in
-    let spare = le-ltb _ _ (past-7 .if2 .left) in
-    let few = le-ltb _ _ (c .before .if4 .left) in
-    c .done2 .ensures ∙ simp (pixels, spare, few, ← counted .count .ensures)
+returns-3 : tie.Need-returns-3
+returns-3 c =
+    let args = c .before .before .before .before .before .before .before .before .args in
+    let f = args .line .now in
+    let pixels = sym (c .before .before .before .before .before .before .is-outside .ensures) ∙ c .before .before .before .before .before .if1 .left in
+    c .needing2 .ensures
+    ∙ rw (c .before .before .before .needing .ensures, c .before .before .before .before .done .ensures, c .before .count .ensures, pixels)
+    (answer-chain (drop 1 (listRules (length f) (args .spare) (args .room) (length (stretches f)))) 0 refl)
 
 pub refusal-spec : {M : Type 1} → statement M
 refusal-spec =
@@ -98,14 +62,10 @@ refusal-spec =
     is-outside-requires
     refused-requires
     returns
-    mul-if2
-    mul-refused
-    refused-requires-2
-    returns-2
     done-requires
-    returns-3
+    mul-needing
+    needing-requires
+    returns-2
     count-requires
-    refused-requires-3
-    returns-4
-    done-requires-2
-    returns-5)
+    needing-requires-2
+    returns-3)

@@ -1,7 +1,7 @@
 -- The answer's number decides.
 use mathlib.Core.Path.{sym, _∙_}
 use Rattle.answer.proofs.Rules.{after-done, after-refused}
-use Rattle.stretch.specs.Generator.{beginning}
+use Rattle.bright.specs.Generator.{beginning}
 use borrow.Author.Needs.{needs}
 use Rattle.stretch.proofs.listing.start.Statement.{statement}
 use Rattle.stretch.proofs.listing.start.Tie as tie

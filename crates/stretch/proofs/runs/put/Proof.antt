@@ -1,7 +1,7 @@
 -- Three stores side by side are a run, and leave those before it.
 use native.Mathlib.Omega.{arith}
 use lib.ListN.{length-set}
-use Rattle.stretch.proofs.Stack.{stack-put}
+use Rattle.bright.proofs.Stack.{stack-put8}
 use borrow.Author.Needs.{needs}
 use Rattle.stretch.proofs.runs.put.Statement.{statement}
 use Rattle.stretch.proofs.runs.put.Tie as tie
@@ -34,7 +34,7 @@ same-length : tie.Need-same-length
 same-length c = search needs
 
 returns : tie.Need-returns
-returns c = stack-put (c .args .scratch .now) (c .args .i) (c .args .start) (c .args .level) (omega arith)
+returns c = stack-put8 (c .args .scratch .now) (c .args .i) (c .args .start) (c .args .level) (omega arith)
 
 pub put-spec : {M : Type 1} → statement M
 put-spec =

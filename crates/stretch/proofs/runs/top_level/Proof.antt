@@ -1,9 +1,9 @@
 -- The topmost run is the last of the stack.
 use mathlib.Core.Path.{sym, ap}
 use native.Mathlib.Omega.{arith}
-use Rattle.stretch.specs.Reading.{topLevel}
-use Rattle.stretch.specs.Generator.{stackOf}
-use Rattle.stretch.proofs.Stack.{stack-top}
+use Rattle.bright.specs.Reading.{topLevel}
+use Rattle.bright.specs.Generator.{run8, stackOf}
+use Rattle.bright.proofs.Stack.{stack-top}
 use borrow.Author.Needs.{needs}
 use Rattle.stretch.proofs.runs.top_level.Statement.{statement}
 use Rattle.stretch.proofs.runs.top_level.Tie as tie
@@ -27,7 +27,7 @@ shared-slice-read-result c = search needs
 returns-2 : tie.Need-returns-2
 returns-2 c =
     let a = c .before .before .args in
-    sym (ap topLevel (stack-top (a .scratch .now) (a .depth) (omega arith)))
+    sym (ap topLevel (stack-top run8 (a .scratch .now) (a .depth) (omega arith)))
 
 pub top-level-spec : {M : Type 1} → statement M
 top-level-spec =

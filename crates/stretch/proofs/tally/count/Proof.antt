@@ -3,21 +3,22 @@ use Prim.Native.Nat.{_+_, _-_, _*_}
 use mathlib.Core.Path.{refl}
 use native.Mathlib.Omega.{arith}
 use lib.ListN.{length, getD}
-use Rattle.stretch.proofs.Counting.{Going, going-start, going-first, going-pop, going-room, going-push, going-same, going-end}
+use Rattle.bright.proofs.Counting.{Going, going-start, going-first, going-pop, going-room, going-push, going-same, going-end}
+use Rattle.bright.specs.Reading.{levels8}
 use borrow.Author.Needs.{needs}
 use Rattle.stretch.proofs.tally.count.Statement.{statement}
 use Rattle.stretch.proofs.tally.count.Tie as tie
 
 abbrev Inv-loop : tie.InvT-loop
 Inv-loop line levels₀ depth₀ total₀ read₀ levels depth total read =
-    Going line levels depth total read
+    Going levels8 line levels depth total read
 
 abbrev μ-loop : tie.MeasureT-loop
 μ-loop line levels₀ depth₀ total₀ read₀ levels depth total read =
     2 * (length line - read) + depth
 
 loop-holds : tie.Need-loop-holds Inv-loop μ-loop
-loop-holds c = going-start (c .args .line .now) _ refl
+loop-holds c = going-start levels8 (c .args .line .now) _ refl
 
 shared-slice-read-v : tie.Need-shared-slice-read-v Inv-loop μ-loop
 shared-slice-read-v c = search needs
@@ -33,11 +34,13 @@ loop-less c = search needs
 
 loop-again : tie.Need-loop-again Inv-loop μ-loop
 loop-again c =
-    let head = c .before .before .before in
+    let at-byte = c .before in
+    let head = at-byte .before .before in
     let entry = head .before in
     let f = entry .args .line .now in
     let l = head .loop in
-    going-first f (l .levels) (l .depth) (l .total) (l .read) (getD f (l .read) 0) (l .inv) (omega arith) refl (omega arith)
+    let byte = at-byte .shared-slice-known .given (l .read) in
+    going-first levels8 f (l .levels) (l .depth) (l .total) (l .read) (getD f (l .read) 0) (l .inv) (omega arith) refl (omega (arith, byte)) (omega arith)
 
 sub-top : tie.Need-sub-top Inv-loop μ-loop
 sub-top c = search needs
@@ -60,7 +63,7 @@ loop-again-2 c =
     let entry = head .before in
     let f = entry .args .line .now in
     let l = head .loop in
-    going-pop f (l .levels) (l .depth) (l .total) (l .read) (getD f (l .read) 0) (l .inv) (omega arith) refl (λ e. omega arith) (omega arith)
+    going-pop levels8 f (l .levels) (l .depth) (l .total) (l .read) (getD f (l .read) 0) (l .inv) (omega arith) refl (λ e. omega arith) (omega arith)
 
 array-write-levels-2 : tie.Need-array-write-levels-2 Inv-loop μ-loop
 array-write-levels-2 c =
@@ -70,7 +73,7 @@ array-write-levels-2 c =
     let f = entry .args .line .now in
     let l = head .loop in
     let byte = at-byte .shared-slice-known .given (l .read) in
-    going-room f (l .levels) (l .depth) (l .total) (l .read) (getD f (l .read) 0) (l .inv) (omega arith) refl (λ e. omega arith)
+    going-room levels8 f (l .levels) (l .depth) (l .total) (l .read) (getD f (l .read) 0) (l .inv) (omega arith) refl (λ e. omega arith)
     (omega (arith, byte)) (omega arith)
 
 add-depth : tie.Need-add-depth Inv-loop μ-loop
@@ -90,7 +93,7 @@ loop-again-3 c =
     let f = entry .args .line .now in
     let l = head .loop in
     let byte = at-byte .shared-slice-known .given (l .read) in
-    going-push f (l .levels) (l .depth) (l .total) (l .read) (getD f (l .read) 0) (l .inv) (omega arith) refl (λ e. omega arith)
+    going-push levels8 f (l .levels) (l .depth) (l .total) (l .read) (getD f (l .read) 0) (l .inv) (omega arith) refl (λ e. omega arith)
     (omega (arith, byte)) (omega arith)
 
 add-read-3 : tie.Need-add-read-3 Inv-loop μ-loop
@@ -105,7 +108,7 @@ loop-again-4 c =
     let entry = head .before in
     let f = entry .args .line .now in
     let l = head .loop in
-    going-same f (l .levels) (l .depth) (l .total) (l .read) (getD f (l .read) 0) (l .inv) (omega arith) refl (λ e. omega arith) (omega arith) (omega arith)
+    going-same levels8 f (l .levels) (l .depth) (l .total) (l .read) (getD f (l .read) 0) (l .inv) (omega arith) refl (λ e. omega arith) (omega arith) (omega arith)
 
 add-result : tie.Need-add-result Inv-loop μ-loop
 add-result c = search needs
@@ -113,7 +116,7 @@ add-result c = search needs
 returns : tie.Need-returns Inv-loop μ-loop
 returns c =
     let l = c .before .loop in
-    going-end (c .before .before .args .line .now) (l .levels) (l .depth) (l .total) (l .read) (l .inv) (omega arith)
+    going-end levels8 (c .before .before .args .line .now) (l .levels) (l .depth) (l .total) (l .read) (l .inv) (omega arith)
 
 pub count-spec : {M : Type 1} → statement M
 count-spec =

@@ -19,42 +19,21 @@ abbrev μ-loop : tie.MeasureT-loop
 loop-holds : tie.Need-loop-holds Inv-loop μ-loop
 loop-holds c = search needs
 
-mul-digit-count : tie.Need-mul-digit-count Inv-loop μ-loop
-mul-digit-count c = search needs
+mul-field-bytes : tie.Need-mul-field-bytes Inv-loop μ-loop
+mul-field-bytes c = search needs
 
-shared-slice-read-digit-count : tie.Need-shared-slice-read-digit-count Inv-loop μ-loop
-shared-slice-read-digit-count c = search needs
+shared-slice-read-field-bytes : tie.Need-shared-slice-read-field-bytes Inv-loop μ-loop
+shared-slice-read-field-bytes c = search needs
 
-digit-count-requires : tie.Need-digit-count-requires Inv-loop μ-loop
-digit-count-requires c κs = search needs
+field-bytes-requires : tie.Need-field-bytes-requires Inv-loop μ-loop
+field-bytes-requires c κs = search needs
 
 add-bytes : tie.Need-add-bytes Inv-loop μ-loop
 add-bytes c =
-    let fields = c .before .before .before .before .before .args .fields .now in
+    let entry = c .before .before .before .before .before in
+    let fields = entry .args .fields .now in
     let turn = c .before .before .before .loop in
-    omega (
-      arith,
-      turn .inv .1,
-      c .digit-count .ensures,
-      fields-length fields (turn .i) []
-          (omega arith),
-      fields-most fields,
-      c .before .before .before .before .before .pre,
-    )
-
-add-bytes-2 : tie.Need-add-bytes-2 Inv-loop μ-loop
-add-bytes-2 c =
-    let fields = c .before .before .before .before .before .args .fields .now in
-    let turn = c .before .before .before .loop in
-    omega (
-      arith,
-      turn .inv .1,
-      c .digit-count .ensures,
-      fields-length fields (turn .i) []
-          (omega arith),
-      fields-most fields,
-      c .before .before .before .before .before .pre,
-    )
+    omega (arith, turn .inv .1, c .field-bytes .ensures, fields-length fields (turn .i) [] (omega arith), fields-most fields, entry .pre)
 
 add-i : tie.Need-add-i Inv-loop μ-loop
 add-i c = search needs
@@ -66,7 +45,7 @@ loop-again : tie.Need-loop-again Inv-loop μ-loop
 loop-again c =
     let fields = c .before .before .before .before .before .args .fields .now in
     let turn = c .before .before .before .loop in
-    (omega arith, omega (arith, turn .inv .1, c .digit-count .ensures, fields-length fields (turn .i) [] (omega arith)))
+    (omega arith, omega (arith, turn .inv .1, c .field-bytes .ensures, fields-length fields (turn .i) [] (omega arith)))
 
 returns : tie.Need-returns Inv-loop μ-loop
 returns c =
@@ -83,11 +62,10 @@ line-bytes-spec =
     Inv-loop
     μ-loop
     loop-holds
-    mul-digit-count
-    shared-slice-read-digit-count
-    digit-count-requires
+    mul-field-bytes
+    shared-slice-read-field-bytes
+    field-bytes-requires
     add-bytes
-    add-bytes-2
     add-i
     loop-less
     loop-again

@@ -3,10 +3,10 @@ use Prim.Native.Nat.{_-_, _≤_}
 use mathlib.Core.Path.{_≡_, refl}
 use mathlib.Core.List.{[], _∷_, _++_}
 use native.Mathlib.Omega.{arith}
-use lib.ListN.{length, getD, drop, length-append, length-set}
+use lib.ListN.{length, getD, drop}
 use Rattle.text.specs.Decimal.{decimal}
 use Rattle.text.specs.Lines.{tab, feed, fieldsText}
-use Rattle.text.proofs.Runs.{Left, left-start, left-more, left-end, left-room, puts-one, puts-join, fields-cons, fields-end}
+use Rattle.text.proofs.Runs.{Left, left-start, left-more, left-end, left-room, puts-join, fields-cons, fields-end}
 use borrow.Author.Needs.{needs}
 use Rattle.text.proofs.lines.put_line.Statement.{statement}
 use Rattle.text.proofs.lines.put_line.Tie as tie
@@ -18,11 +18,8 @@ Inv-loop dst₀ at letter fields next₀ i₀ dst next i =
 abbrev μ-loop : tie.MeasureT-loop
 μ-loop dst₀ at letter fields next₀ i₀ dst next i = length fields - i
 
-slice-write-dst : tie.Need-slice-write-dst Inv-loop μ-loop
-slice-write-dst c = search needs
-
-add-next : tie.Need-add-next Inv-loop μ-loop
-add-next c = search needs
+put-byte-requires : tie.Need-put-byte-requires Inv-loop μ-loop
+put-byte-requires c κs = search needs
 
 loop-holds : tie.Need-loop-holds Inv-loop μ-loop
 loop-holds c = (search needs, refl, left-start _ _ _)
@@ -35,13 +32,12 @@ shared-slice-read-put-field c = search needs
 
 put-field-requires : tie.Need-put-field-requires Inv-loop μ-loop
 put-field-requires c κs =
-    let dst = c .before .before .before .before .before .before .args .dst .now in
-    let at = c .before .before .before .before .before .before .args .at in
-    let letter = c .before .before .before .before .before .before .args .letter in
-    let fields = c .before .before .before .before .before .before .args .fields .now in
     let turn = c .before .before .before .loop in
+    let letter = c .before .before .before .before .before .before .put-byte in
+    let entry = c .before .before .before .before .before .before .before .before .before .before in
+    let fields = entry .args .fields .now in
     let room = left-room (tab ∷ decimal (getD fields (turn .i) 0)) _ (rw (fields-cons fields (turn .i) (feed ∷ []) (omega arith)) at (turn .inv .2)) in
-    omega (arith, room, turn .inv .1, length-set dst at letter, length-append (fieldsText fields) (feed ∷ []))
+    omega (arith, room, turn .inv .1, letter .ensures .next, letter .kept .0, entry .pre)
 
 add-i : tie.Need-add-i Inv-loop μ-loop
 add-i c = search needs
@@ -51,52 +47,35 @@ loop-less c = search needs
 
 loop-again : tie.Need-loop-again Inv-loop μ-loop
 loop-again c =
-    let fields = c .before .before .before .before .before .before .before .before .before .args .fields .now in
-    let turn = c .before .before .before .before .before .before .loop in (
+    let field = c .before .before .put-field in
+    let turn = c .before .before .before .before .before .before .loop in
+    let fields = c .before .before .before .before .before .before .before .before .before .before .before .before .before .args .fields .now in (
       omega arith,
-      omega (arith, turn .inv .1, c .before .before .put-field .kept .0),
-      left-more
-          (rw (fields-cons fields (turn .i) (feed ∷ []) (omega arith)) at (turn .inv .2)) (c .before .before .put-field .ensures),
+      omega (arith, turn .inv .1, field .kept .0),
+      left-more (rw (fields-cons fields (turn .i) (feed ∷ []) (omega arith)) at (turn .inv .2)) (field .ensures),
     )
 
-slice-write-dst-2 : tie.Need-slice-write-dst-2 Inv-loop μ-loop
-slice-write-dst-2 c =
-    let dst = c .before .before .before .before .args .dst .now in
-    let at = c .before .before .before .before .args .at in
-    let letter = c .before .before .before .before .args .letter in
-    let fields = c .before .before .before .before .args .fields .now in
-    let turn = c .before .loop in
+put-byte-requires-2 : tie.Need-put-byte-requires-2 Inv-loop μ-loop
+put-byte-requires-2 c κs =
+    let turn = c .before .before .loop in
+    let letter = c .before .before .before .before .before .put-byte in
+    let entry = c .before .before .before .before .before .before .before .before .before in
+    let fields = entry .args .fields .now in
     let left = rw (fields-end fields (turn .i) (feed ∷ []) (omega arith)) at (turn .inv .2) in
-    omega (arith, left .next, turn .inv .1, length-set dst at letter, length-append (fieldsText fields) (feed ∷ []))
-
-add-result : tie.Need-add-result Inv-loop μ-loop
-add-result c =
-    let dst = c .before .before .before .before .args .dst .now in
-    let at = c .before .before .before .before .args .at in
-    let letter = c .before .before .before .before .args .letter in
-    let fields = c .before .before .before .before .args .fields .now in
-    let turn = c .before .loop in
-    let left = rw (fields-end fields (turn .i) (feed ∷ []) (omega arith)) at (turn .inv .2) in
-    omega (arith, left .next, turn .inv .1, length-set dst at letter, length-append (fieldsText fields) (feed ∷ []))
+    omega (arith, left .next, turn .inv .1, letter .ensures .next, letter .kept .0, entry .pre)
 
 same-length : tie.Need-same-length Inv-loop μ-loop
 same-length c =
-    let dst = c .before .before .before .before .args .dst .now in
-    let at = c .before .before .before .before .args .at in
-    let letter = c .before .before .before .before .args .letter in
-    let fields = c .before .before .before .before .args .fields .now in
-    let turn = c .before .loop in
-    omega (arith, turn .inv .1, length-set dst at letter, length-set (turn .dst) (turn .next) feed)
+    let turn = c .before .before .before .before .before .loop in
+    omega (arith, c .before .before .put-byte2 .kept .0, turn .inv .1, c .before .before .before .before .before .before .before .before .put-byte .kept .0)
 
 returns : tie.Need-returns Inv-loop μ-loop
 returns c =
-    let dst = c .before .before .before .before .args .dst .now in
-    let at = c .before .before .before .before .args .at in
-    let letter = c .before .before .before .before .args .letter in
-    let fields = c .before .before .before .before .args .fields .now in
-    let turn = c .before .loop in
+    let turn = c .before .before .before .before .before .loop in
+    let letter = c .before .before .before .before .before .before .before .before .put-byte in
+    let fields = c .before .before .before .before .before .before .before .before .before .before .before .before .args .fields .now in
     let left = rw (fields-end fields (turn .i) (feed ∷ []) (omega arith)) at (turn .inv .2) in
-    puts-join (puts-one dst at letter) (left-end left (puts-one (turn .dst) (turn .next) feed))
+    puts-join (letter .ensures) (left-end left (c .before .before .put-byte2 .ensures))
 
 pub put-line-spec : {M : Type 1} → statement M
 put-line-spec =
@@ -104,8 +83,7 @@ put-line-spec =
     (tie.spec
     Inv-loop
     μ-loop
-    slice-write-dst
-    add-next
+    put-byte-requires
     loop-holds
     mul-put-field
     shared-slice-read-put-field
@@ -113,7 +91,6 @@ put-line-spec =
     add-i
     loop-less
     loop-again
-    slice-write-dst-2
-    add-result
+    put-byte-requires-2
     same-length
     returns)

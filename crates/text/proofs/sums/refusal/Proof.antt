@@ -1,12 +1,12 @@
--- Each way out has made the tests of the rules up to its own.
-use mathlib.Core.Path.{sym, _∙_}
+-- Rules 2 and 4 by themselves, since the bytes are counted only of what they accept; then rule 6.
+use mathlib.Core.Path.{refl, sym, _∙_}
 use native.Mathlib.Omega.{arith}
 use Prim.Native.Nat.{_+_}
-use lib.ListN.{length}
+use lib.ListN.{length, drop}
 use borrow.Author.Tests.{lt-ltb, le-ltb}
 use Rattle.answer.specs.Limits.{longest}
-use Rattle.answer.proofs.Rules.{outside-not}
-use borrow.Author.Needs.{needs}
+use Rattle.answer.proofs.Rules.{answer-chain, outside-not}
+use Rattle.text.specs.Sums.{sumsText, textRules}
 use borrow.Author.Needs.{needs}
 use Rattle.text.proofs.sums.refusal.Statement.{statement}
 use Rattle.text.proofs.sums.refusal.Tie as tie
@@ -37,25 +37,21 @@ bytes-of-requires c κs =
     let within = outside-not 2 (longest + 1) (length (c .before .before .before .before .args .sums .now)) entries in
     (omega arith, within .1)
 
-refused-requires-3 : tie.Need-refused-requires-3
-refused-requires-3 c κs = search needs
-
-returns-3 : tie.Need-returns-3
-returns-3 c =
-    let entries = sym (c .before .before .before .before .is-outside .ensures) ∙ c .before .before .before .if2 .left in
-    let bytes = c .before .before .bytes-of .ensures in
-    let short = rw bytes at (c .before .if3 .taken) in
-    c .refused3 .ensures ∙ simp (bytes, le-ltb _ _ (c .before .before .before .before .before .if1 .left), entries, lt-ltb _ _ short)
-
 done-requires : tie.Need-done-requires
 done-requires c κs = search needs
 
-returns-4 : tie.Need-returns-4
-returns-4 c =
+needing-requires : tie.Need-needing-requires
+needing-requires c κs = search needs
+
+returns-3 : tie.Need-returns-3
+returns-3 c =
+    let args = c .before .before .before .before .before .before .before .args in
+    let sums = args .sums .now in
+    let direction = le-ltb _ _ (c .before .before .before .before .before .if1 .left) in
     let entries = sym (c .before .before .before .before .is-outside .ensures) ∙ c .before .before .before .if2 .left in
-    let bytes = c .before .before .bytes-of .ensures in
-    let enough = rw bytes at (c .before .if3 .left) in
-    c .done .ensures ∙ simp (bytes, le-ltb _ _ (c .before .before .before .before .before .if1 .left), entries, le-ltb _ _ enough)
+    c .needing .ensures
+    ∙ rw (c .before .done .ensures, c .before .before .bytes-of .ensures, direction, entries)
+    (answer-chain (drop 2 (textRules (args .direction) sums (args .room))) (length (sumsText (args .direction) sums)) refl)
 
 pub refusal-spec : {M : Type 1} → statement M
 refusal-spec =
@@ -68,7 +64,6 @@ refusal-spec =
     refused-requires-2
     returns-2
     bytes-of-requires
-    refused-requires-3
-    returns-3
     done-requires
-    returns-4)
+    needing-requires
+    returns-3)

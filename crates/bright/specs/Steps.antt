@@ -1,0 +1,67 @@
+-- What the private parts of a step and of a listing keep to.
+--   Ready f m p          a reading of the line f can stand at p with the scratch m, as facts
+--   Begins, Climbs       the reading has gone on, and what is to come is the same
+--   Closes f m p         the topmost run ends at p: the pixel there is darker, or the line is at its end
+--   Ends                 .. and that run starts at start, and the one below it is at under
+--   fallen v rs          the runs once the topmost is ended by a pixel v
+--   Falls                from the runs so fallen the rest comes
+--   Finds                the topmost run is the stretch found
+--   startOf a            where the reading of a listing with the answer a starts: at a refusal at a place where none can stand
+--   finished a k         the answer of a listing that has come to its end, with k stretches
+use mathlib.Core.Path.{_≡_}
+use mathlib.Core.Bool.{true, cond}
+use mathlib.Core.List.{List, [], _∷_}
+use Prim.Native.Nat.{ℕ, _-_, _*_, _≤_, _<_}
+use lib.ListN.{length, getD, drop}
+use Rattle.answer.specs.declared.Answer.{Answer}
+use Rattle.answer.specs.Limits.{longest}
+use Rattle.answer.specs.Rules.{done, by-number}
+use Rattle.bright.specs.declared.Place.{Place}
+use Rattle.bright.specs.declared.Step.{Step}
+use Rattle.bright.specs.Reading.{Run, topLevel, topHolds, todo}
+use Rattle.bright.specs.Generator.{Layout, stackOf, toCome, beginning}
+
+pub record Ready (f m : List ℕ) (p : Place) : Type 0 where
+  pub pixels : length f ≤ longest
+  pub room : 4 * length f ≤ length m
+  pub read : p .read ≤ length f
+  pub depth : p .depth ≤ p .read
+
+-- a run is open afterwards, unless the line is at its end
+pub record Begins (run : Layout) (f m : List ℕ) (p : Place) (m′ : List ℕ) (q : Place) : Type 0 where
+  pub ready : Ready f m′ q
+  pub same : toCome run f m p ≡ toCome run f m′ q
+  pub none : q .depth ≡ 0 → (toCome run f m p ≡ []) × (m′ ≡ m)
+
+pub record Closes (run : Layout) (f m : List ℕ) (p : Place) : Type 0 where
+  pub ready : Ready f m p
+  pub some : 0 < p .depth
+  pub stops : p .read < length f → getD f (p .read) 0 < topLevel (stackOf run m (p .depth))
+
+pub record Ends (run : Layout) (f m : List ℕ) (p : Place) (start under : ℕ) : Type 0 where
+  pub closes : Closes run f m p
+  pub from : start ≡ run m (p .depth - 1) .start
+  pub below : under ≡ topLevel (stackOf run m (p .depth - 1))
+
+pub record Climbs (run : Layout) (f m : List ℕ) (p : Place) (m′ : List ℕ) (q : Place) : Type 0 where
+  pub closes : Closes run f m′ q
+  pub same : toCome run f m p ≡ toCome run f m′ q
+
+abbrev pub fallen : ℕ → List Run → List Run
+fallen v [] = []
+fallen v (r ∷ rs) = cond (topHolds v rs) rs (record { start = r .start; level = v } ∷ rs)
+
+pub record Falls (run : Layout) (f m : List ℕ) (p : Place) (m′ : List ℕ) (q : Place) : Type 0 where
+  pub ready : Ready f m′ q
+  pub comes : todo (p .read) (drop (p .read) f) (fallen (getD f (p .read) 0) (stackOf run m (p .depth))) ≡ toCome run f m′ q
+
+pub record Finds (run : Layout) (f m : List ℕ) (p : Place) (m′ : List ℕ) (r : Step) : Type 0 where
+  pub found : r .found ≡ true
+  pub comes : toCome run f m p ≡ r .stretch ∷ toCome run f m′ (r .place)
+  pub ready : Ready f m′ (r .place)
+
+abbrev pub startOf : Answer → Place
+startOf a = by-number (a .number) beginning (record { read = 0; depth = 1 })
+
+abbrev pub finished : Answer → ℕ → Answer
+finished a k = by-number (a .number) (done k) a

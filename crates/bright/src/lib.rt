@@ -1,0 +1,24 @@
+// The bright stretches of a line, whatever the width of its pixels: what a reading of the line stands at and what it finds. What a bright stretch is, how one reading
+// makes the list, and the laws of both speak of lists of numbers (specs/, proofs/).
+
+// A bright stretch: its start, its end, which is not included, its darkest pixel and its brighter neighbour.
+#[repr(C)]
+pub struct Stretch {
+    pub start: u16,
+    pub end: u16,
+    pub level: u16,
+    pub base: u16,
+}
+
+// Where a reading of a line stands: how many pixels are read, and how many runs are open in the scratch.
+pub struct Place {
+    pub read: usize,
+    pub depth: usize,
+}
+
+// What a reading finds next, and the place to go on from; `found` is false where there is none.
+pub struct Step {
+    pub found: bool,
+    pub stretch: Stretch,
+    pub place: Place,
+}

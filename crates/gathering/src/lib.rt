@@ -1,0 +1,16 @@
+// Lines of a frame of pixels: gathered, scattered, and put back combined with what stands there; and the lent row.
+mod cells;
+mod claiming;
+mod gathering;
+mod rows;
+mod rules;
+mod scattering;
+
+// What a frame and a line consist of; the numbers of holders are bytes.
+pub type Pixel = u8;
+
+pub use claiming::claim;
+pub use gathering::gather;
+pub use rows::row;
+pub use scattering::raise;
+pub use scattering::scatter;

@@ -1,0 +1,21 @@
+// What there is to open.
+use frame::Direction;
+use frame::Shape;
+ghost use mathlib.Core.Path.{_≡_};
+ghost use Rattle.rows.specs.Rows.{canOpen};
+
+// Whether rules 1, 2, 3 and 5 accept a frame, a direction, a window length and a buffer of n bytes.
+pub(crate) fn can_open(shape: Shape, d: Direction, length: usize, n: usize) -> bool
+    ensures { λ r. ⌜ r ≡ canOpen shape d length n ⌝ }
+{
+    if !shape.is_frame() {
+        return false;
+    }
+    if !d.is_direction() {
+        return false;
+    }
+    if length < 1 {
+        return false;
+    }
+    shape.bytes() <= n
+}

@@ -1,3 +1,0 @@
--- Laws for the program.
---   Near        the line numbers of any frame are small
-pub mod Near
