@@ -1,4 +1,4 @@
-// A byte for each line, where lines go abreast down the rows: the level that the line has come to on its way from row to row. Levels stand in the order of
+// A pixel for each line, where lines go abreast down the rows: the level that the line has come to on its way from row to row. Levels stand in the order of
 // the lines, so a row's are side by side, and no line's level moves as the line moves aside.
 use crate::Pixel;
 use crate::order::row_of;
