@@ -16,12 +16,7 @@ use borrow.Author.Tests.{ne-eqb, ltb-true, ltb-false, le-ltb}
 use Rattle.lists.specs.Stores.{front}
 use Rattle.lists.proofs.Cases.{both-left, both-right, neither-left, neither-right}
 use Rattle.answer.specs.declared.Answer.{Answer}
-use Rattle.answer.specs.Rules.{Rule, done, answer, refusal, checked, by-number, after, outside}
-
--- no rule of the list is broken
-abbrev pub Kept : List Rule → Type 0
-Kept [] = Unit
-Kept (r ∷ rs) = (r .broken ≡ false) × Kept rs
+use Rattle.answer.specs.Rules.{Rule, Kept, done, answer, refusal, checked, by-number, after, outside}
 
 -- each rule's number is above 0, so that 0 is done
 abbrev pub numbered : List Rule → Bool

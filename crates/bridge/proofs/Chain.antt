@@ -20,11 +20,11 @@ use Rattle.bright.specs.Stretches.{stretches}
 use Rattle.bright.specs.Reading.{Run, topLevel, topHolds, topBelow, closed, ended, settled, opened, ending, todo}
 use Rattle.bright.proofs.Model.{todo-stretches}
 use Rattle.bright.proofs.Turn.{ended-none, low-top}
-use Rattle.bridge.specs.Reach.{long, over, reaching}
+use Rattle.bridge.specs.Reach.{long, inStretch, reaching}
 
 unfoldable pub holders : ℕ → List Stretch → List Stretch
 holders x [] = []
-holders x (s ∷ ss) = keep (over x s) s ++ holders x ss
+holders x (s ∷ ss) = keep (inStretch x s) s ++ holders x ss
 
 -- a chain from the level l on, of stretches that start at a or before and end at e or after
 pub Chain : ℕ → ℕ → ℕ → List Stretch → Type 0
@@ -118,7 +118,7 @@ hold-top v (r ∷ rs) h = leb-true v (r .level) h
 held-append : (x : ℕ) (xs ys : List Stretch) → holders x (xs ++ ys) ≡ holders x xs ++ holders x ys
 unfolding holders
 held-append x [] ys = refl
-held-append x (s ∷ xs) ys = go (over x s) (held-append x xs ys)
+held-append x (s ∷ xs) ys = go (inStretch x s) (held-append x xs ys)
   where
     go : (t : Bool) → holders x (xs ++ ys) ≡ holders x xs ++ holders x ys → keep t s ++ holders x (xs ++ ys) ≡ (keep t s ++ holders x xs) ++ holders x ys
     go true ih = ap (λ (l : List Stretch). s ∷ l) ih
@@ -288,10 +288,10 @@ gain-long L l a e (s ∷ ss) c = go (leb L (long s)) refl (gain-long L (s .base)
 reach-long : (L x : ℕ) (ss : List Stretch) → reaching L x ss ≡ longLevels L (holders x ss)
 unfolding reaching longLevels holders
 reach-long L x [] = refl
-reach-long L x (s ∷ ss) = go (leb L (long s)) refl (over x s) refl (reach-long L x ss)
+reach-long L x (s ∷ ss) = go (leb L (long s)) refl (inStretch x s) refl (reach-long L x ss)
   where
-    go : (t : Bool) → leb L (long s) ≡ t → (u : Bool) → over x s ≡ u → reaching L x ss ≡ longLevels L (holders x ss)
-        → keep (leb L (long s) && over x s) (s .level) ++ reaching L x ss ≡ longLevels L (keep (over x s) s ++ holders x ss)
+    go : (t : Bool) → leb L (long s) ≡ t → (u : Bool) → inStretch x s ≡ u → reaching L x ss ≡ longLevels L (holders x ss)
+        → keep (leb L (long s) && inStretch x s) (s .level) ++ reaching L x ss ≡ longLevels L (keep (inStretch x s) s ++ holders x ss)
     go true t true u ih = simp (t, u, ih)
     go true t false u ih = simp (t, u, ih)
     go false t true u ih = simp (t, u, ih)

@@ -23,7 +23,7 @@ use Rattle.bright.specs.Stretches.{levelOf, stretchOf, stretches, Bright}
 use Rattle.bright.proofs.Levels.{level-part}
 use Rattle.bright.proofs.Listed.{all-intro, all-elim}
 use Rattle.bright.proofs.Nest.{Around, extend, around-bright}
-use Rattle.bridge.specs.Reach.{long, over, reaching}
+use Rattle.bridge.specs.Reach.{long, inStretch, reaching}
 
 -- ---- the greatest of the levels that reach, by its bounds
 
@@ -45,10 +45,10 @@ module _ (L x : ℕ) where
   unfolding reaching All greatest
   reaching-le m [] h = omega arith
   reaching-le m (s ∷ ss) h =
-      keep-le (leb L (long s) && over x s) (s .level) m (reaching L x ss)
+      keep-le (leb L (long s) && inStretch x s) (s .level) m (reaching L x ss)
       (λ e.
-      let held : over x s ≡ true = both-right (leb L (long s)) (over x s) e in
-      h .0 (leb-true L (long s) (both-left (leb L (long s)) (over x s) e)) (leb-true (s .start) x (both-left (leb (s .start) x) (ltb x (s .end)) held))
+      let held : inStretch x s ≡ true = both-right (leb L (long s)) (inStretch x s) e in
+      h .0 (leb-true L (long s) (both-left (leb L (long s)) (inStretch x s) e)) (leb-true (s .start) x (both-left (leb (s .start) x) (ltb x (s .end)) held))
       (ltb-true x (s .end) (both-right (leb (s .start) x) (ltb x (s .end)) held)))
       (reaching-le m ss (h .1))
 
@@ -56,8 +56,8 @@ module _ (L x : ℕ) where
   unfolding reaching All
   le-reaching m [] h = tt
   le-reaching m (s ∷ ss) h =
-      let k = le-keep (leb L (long s) && over x s) (s .level) m (reaching L x ss) h in (
-        (λ p q r. k .0 (both (leb L (long s)) (over x s) (le-leb L (long s) p) (both (leb (s .start) x) (ltb x (s .end)) (le-leb (s .start) x q) (lt-ltb x (s .end) r)))),
+      let k = le-keep (leb L (long s) && inStretch x s) (s .level) m (reaching L x ss) h in (
+        (λ p q r. k .0 (both (leb L (long s)) (inStretch x s) (le-leb L (long s) p) (both (leb (s .start) x) (ltb x (s .end)) (le-leb (s .start) x q) (lt-ltb x (s .end) r)))),
         le-reaching m ss (k .1),
       )
 

@@ -23,7 +23,7 @@ use Rattle.line.specs.Windows.{openedAt, opened}
 use Rattle.bright.specs.declared.Stretch.{Stretch}
 use Rattle.bright.specs.Stretches.{stretchOf, stretches}
 use Rattle.bright.proofs.Listed.{all-intro}
-use Rattle.bridge.specs.Reach.{long, over}
+use Rattle.bridge.specs.Reach.{long, inStretch}
 use Rattle.bridge.specs.Sums.{sumFor, binFor, restFor, light, lightOf}
 use Rattle.bridge.proofs.Chain.{holders, gainOf, holders-chain, gain-whole, gain-reaching}
 use Rattle.bridge.proofs.Openings.{opened-at-stretches}
@@ -65,7 +65,7 @@ Fits n s = (s .start ≤ s .end) × (s .end ≤ n)
 
 gain-cons : (L x : ℕ) (s : Stretch) (ss : List Stretch) → gainOf L (holders x (s ∷ ss)) ≡ within (s .start) (s .end) (rise L s) x + gainOf L (holders x ss)
 unfolding gainOf holders
-gain-cons L x s ss = go (over x s)
+gain-cons L x s ss = go (inStretch x s)
   where
     go : (t : Bool) → gainOf L (keep t s ++ holders x ss) ≡ cond t (rise L s) 0 + gainOf L (holders x ss)
     go true = refl

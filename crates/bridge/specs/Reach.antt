@@ -1,6 +1,6 @@
 -- The openings of a line from its listed stretches (demand 3).
 --   long s               how many pixels a stretch has
---   over x s             the stretch s holds the pixel x
+--   inStretch x s        the stretch s holds the pixel x
 --   reaching L x ss      the levels of those stretches of ss that are at least L long and hold x
 -- Laws: bridge/proofs/Openings.
 use mathlib.Core.Bool.{Bool, _&&_}
@@ -13,10 +13,10 @@ use Rattle.bright.specs.declared.Stretch.{Stretch}
 abbrev pub long : Stretch → ℕ
 long s = s .end - s .start
 
-abbrev pub over : ℕ → Stretch → Bool
-over x s = leb (s .start) x && ltb x (s .end)
+abbrev pub inStretch : ℕ → Stretch → Bool
+inStretch x s = leb (s .start) x && ltb x (s .end)
 
 -- 'For every length, a pixel's opening is the highest such darkest pixel among the listed runs at least that long that hold it, and 0 if none does.'
 unfoldable pub reaching : ℕ → ℕ → List Stretch → List ℕ
 reaching L x [] = []
-reaching L x (s ∷ ss) = keep (leb L (long s) && over x s) (s .level) ++ reaching L x ss
+reaching L x (s ∷ ss) = keep (leb L (long s) && inStretch x s) (s .level) ++ reaching L x ss

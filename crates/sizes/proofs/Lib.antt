@@ -2,7 +2,7 @@
 --   Bins         bins and rest of a line together are the total of its pixels
 --   Lights       bins and rest from the stretches, one after the other
 --   Gathered     a frame's sums from those of its lines; together they are the total of its pixels
---   Petals       the rose, row by row; no sum is the largest number of 64 bits
+--   Rows         the rose, row by row; no sum is the largest number of 64 bits
 --   Calls        what the calls know once they are not refused, and what they leave
 --   Summaries    parts of totals, and the summary case by case
 --   Examples     sums and summary of document 01's example
@@ -10,6 +10,6 @@ pub mod Bins
 pub mod Lights
 pub mod Calls
 pub mod Gathered
-pub mod Petals
+pub mod Rows
 pub mod Summaries
 pub mod Examples

@@ -1,6 +1,6 @@
 -- The light of a line's stretches, entry by entry.
 --   sound-stretches                             each listed stretch has pixels, and its level is not below its base
---   share-entry                                 the light of the stretches of an entry is that bin, or the rest
+--   entry-light                                 the light of the stretches of an entry is that bin, or the rest
 --   Adding                                      where the adding of a line stands; adding-start, -sound, -more, -end
 --   entry-most, adding-modest, light-most       no entry grows too large meanwhile
 -- Assumes nothing.
@@ -28,7 +28,7 @@ use Rattle.bridge.specs.Reach.{long}
 use Rattle.bridge.specs.Sums.{sumFor, light, lightOf}
 use Rattle.bridge.proofs.Sizes.{bin-stretches, rest-stretches}
 use Rattle.sizes.specs.Sums.{lineSums}
-use Rattle.sizes.specs.Steps.{entryOf, lit, shareOf, Sound, Modest, Adds}
+use Rattle.sizes.specs.Steps.{entryOf, lit, entryLight, Sound, Modest, Adds}
 use Rattle.sizes.proofs.Bins.{sums-length, sums-bin, sums-rest, line-total}
 
 -- ---- each stretch of the list
@@ -86,16 +86,16 @@ rest-test K l = go (ltb K (suc l)) refl
     go true e = eq-eqb (entryOf K (suc l)) K (omega (arith, ltb-true K (suc l) e))
     go false e = ne-eqb (entryOf K (suc l)) K (λ z. omega (arith, ltb-false K (suc l) e))
 
-pub share-entry : (f : List ℕ) (K j : ℕ) → j ≤ K → shareOf K j (stretches f) ≡ getD (lineSums f K) j 0
-share-entry f K j h = ⊎-elim bin rest (less-or-not j K)
+pub entry-light : (f : List ℕ) (K j : ℕ) → j ≤ K → entryLight K j (stretches f) ≡ getD (lineSums f K) j 0
+entry-light f K j h = ⊎-elim bin rest (less-or-not j K)
   where
-    bin : j < K → shareOf K j (stretches f) ≡ getD (lineSums f K) j 0
+    bin : j < K → entryLight K j (stretches f) ≡ getD (lineSums f K) j 0
     bin l =
         light-same (λ (l : ℕ). eqb (entryOf K l) j) (λ (l : ℕ). eqb l (suc j)) (λ i. bin-test K j i l) (stretches f)
         ∙ sym (bin-stretches f (suc j) (omega arith))
         ∙ sym (sums-bin (sumFor f) K j l)
 
-    rest : K ≤ j → shareOf K j (stretches f) ≡ getD (lineSums f K) j 0
+    rest : K ≤ j → entryLight K j (stretches f) ≡ getD (lineSums f K) j 0
     rest l =
         let e : j ≡ K = omega arith in
         rw e
@@ -108,7 +108,7 @@ share-entry f K j h = ⊎-elim bin rest (less-or-not j K)
 -- with the stretches `rest` still to come, the slice s has, entry by entry, what s₀ had and the light of the others
 pub record Adding (f s₀ : List ℕ) (rest : List Stretch) (s : List ℕ) : Type 0 where
   pub same : length s ≡ length s₀
-  pub split : (j : ℕ) → j < length s₀ → getD s j 0 + shareOf (length s₀ - 1) j rest ≡ getD s₀ j 0 + shareOf (length s₀ - 1) j (stretches f)
+  pub split : (j : ℕ) → j < length s₀ → getD s j 0 + entryLight (length s₀ - 1) j rest ≡ getD s₀ j 0 + entryLight (length s₀ - 1) j (stretches f)
   pub sound : All Sound rest
 
 module _ (f s₀ : List ℕ) where
@@ -143,7 +143,7 @@ module _ (f s₀ : List ℕ) where
     adding-end s g = record { same = g .same; added = λ j. ⊎-elim (inside j) (beyond j) (less-or-not j (length s₀)) }
       where
         inside : (j : ℕ) → j < length s₀ → getD s j 0 ≡ getD s₀ j 0 + getD (lineSums f (length s₀ - 1)) j 0
-        inside j l = omega (arith, g .split j l, share-entry f (length s₀ - 1) j (omega arith))
+        inside j l = omega (arith, g .split j l, entry-light f (length s₀ - 1) j (omega arith))
 
         beyond : (j : ℕ) → length s₀ ≤ j → getD s j 0 ≡ getD s₀ j 0 + getD (lineSums f (length s₀ - 1)) j 0
         beyond j l =
@@ -161,7 +161,7 @@ adding-modest f s₀ rest s h dim modest g j = ⊎-elim inside beyond (less-or-n
   where
     inside : j < length s₀ → getD s j 0 ≤ 2 ^ 63
     inside l =
-        omega (arith, g .split j l, share-entry f (length s₀ - 1) j (omega arith), modest j, entry-most f (length s₀ - 1) j h dim)
+        omega (arith, g .split j l, entry-light f (length s₀ - 1) j (omega arith), modest j, entry-most f (length s₀ - 1) j h dim)
 
     beyond : length s₀ ≤ j → getD s j 0 ≤ 2 ^ 63
     beyond l =

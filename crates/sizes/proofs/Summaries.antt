@@ -2,25 +2,30 @@
 --   total-next, total-part          one entry more of a total; a longer part's is no less
 --   weighted-next, weighted-part    the same of a total by lengths
 --   over-by, within-by              a test by division, as a product
---   exact                           a whole number that is cast to a float and loses nothing
+--   exact, float-back               a whole number that is cast to a float and loses nothing: it comes back unchanged
+--   quotient-rounded                a quotient is the fraction of the two whole numbers, rounded once
 --   summary-outside, -dark, -large, -heavy, -done    the ways out of `summarize`
 -- Assumes nothing.
-use mathlib.Core.Path.{_≡_, ap}
+use mathlib.Core.Path.{_≡_, sym, ap, _∙_}
 use mathlib.Core.Bool.{true, false, or-true}
 use mathlib.Core.List.{List, [], _∷_}
 use Prim.Native.Nat.{ℕ, zero, suc, _+_, _*_, _/_, _≤_, _<_, zero-le}
-use native.Mathlib.Nat.{not-suc-le-zero, le-of-suc-le-suc, add-suc, add-zero, suc-add, add-comm, mul-comm, div-lt-iff-lt-mul, le-div-iff-mul-le}
+use native.Mathlib.Nat.{not-suc-le-zero, le-of-suc-le-suc, add-suc, add-zero, suc-add, zero-mul, add-comm, mul-comm, mul-assoc, mul-one, mul-pos, div-lt-iff-lt-mul, le-div-iff-mul-le}
 use native.Mathlib.Numerals.{add-one}
 use native.Mathlib.Omega.{arith}
 use lib.Dec.{T, le→leb}
 use lib.IntN.{pos}
-use lib.Ieee.{binary64, inFloat}
+use lib.Ieee.{Float, nan, inf, fin, binary64, up, down, round, ofInt, div, toUnsigned, inFloat}
+use lib.Ieee.Back.{round-whole, unsigned-back}
+use lib.Ieee.Exact.{HasValue}
+use lib.Ieee.Fits.{down-pos}
+use lib.Ieee.Scale.{round-same}
 use lib.ListN.{length, getD, take}
 use borrow.Author.Tests.{lt-ltb, le-ltb, eq-eqb, ne-eqb}
 use Rattle.lists.specs.Extremes.{total}
 use Rattle.answer.specs.Limits.{longest}
 use Rattle.answer.specs.Rules.{outside}
-use Rattle.sizes.specs.Summary.{binsOf, restOf, weighted, exactest, over, refusedBy, summaryOf}
+use Rattle.sizes.specs.Summary.{binsOf, restOf, weighted, exactest, float, quotient, refusedBy, summaryOf}
 
 pub total-next : (s : List ℕ) (i : ℕ) → i < length s → total (take (i + 1) s) ≡ total (take i s) + getD s i 0
 unfolding total
@@ -65,6 +70,30 @@ pub exact : (n : ℕ) → n ≤ exactest → T (inFloat binary64 (pos n))
 unfolding inFloat
 exact n h = le→leb n exactest h
 
+pub float-back : (n : ℕ) → n ≤ exactest → toUnsigned 64 (float n) ≡ n
+float-back n h = unsigned-back binary64 64 n (exact n h) (omega arith) .1
+
+divided : (x y : Float) (a b : ℕ) → HasValue x false a 1 → HasValue y false b 1 → 0 < b → div binary64 x y ≡ round binary64 false a b
+unfolding div
+divided nan y a b p q some = absurd p
+divided (inf s) y a b p q some = absurd p
+divided (fin s m e) nan a b p q some = absurd q
+divided (fin s m e) (inf t) a b p q some = absurd q
+divided (fin s m e) (fin t n d) a b p q some =
+    let over : m * up e ≡ a * down e = sym (mul-one (m * up e)) ∙ p .1 in
+    let under : n * up d ≡ b * down d = sym (mul-one (n * up d)) ∙ q .1 in
+    let lit : 0 < n * up d = rw under (mul-pos some (down-pos d)) in
+    let there : n ≡ 0 → ⊥ = λ z. omega (arith, lit, ap (λ (n : ℕ). n * up d) z, zero-mul (up d)) in
+    let cross : a * down e * down d * b ≡ a * (b * down d * down e) =
+    ap (λ (z : ℕ). z * b) (mul-assoc a (down e) (down d)) ∙ mul-assoc a (down e * down d) b
+    ∙ ap (λ (z : ℕ). a * z) (mul-comm (down e * down d) b ∙ ap (λ (z : ℕ). b * z) (mul-comm (down e) (down d)) ∙ sym (mul-assoc b (down d) (down e))) in
+    rw (p .0, q .0, ne-eqb n 0 there, over, under)
+    (round-same binary64 false (a * down e * down d) (b * down d * down e) a b (mul-pos (mul-pos some (down-pos d)) (down-pos e)) some cross)
+
+pub quotient-rounded : (x y : ℕ) → x ≤ exactest → y ≤ exactest → 0 < y → quotient x y ≡ round binary64 false x y
+unfolding ofInt
+quotient-rounded x y h k some = divided (float x) (float y) x y (round-whole binary64 false x h) (round-whole binary64 false y k) some
+
 -- ---- the ways out
 
 module _ (s : List ℕ) where
@@ -88,8 +117,8 @@ module _ (s : List ℕ) where
 
       pub summary-done : total (binsOf s) + restOf s ≤ exactest → weighted 1 (binsOf s) ≤ exactest
           → summaryOf s ≡ record {
-            mean = over (weighted 1 (binsOf s)) (total (binsOf s));
-            share = over (total (binsOf s)) (total (binsOf s) + restOf s);
+            mean = quotient (weighted 1 (binsOf s)) (total (binsOf s));
+            share = quotient (total (binsOf s)) (total (binsOf s) + restOf s);
             number = 0;
           }
       unfolding summaryOf

@@ -29,5 +29,5 @@ frameRules sh d entries size spare =
 pub record SumsFrame (src : List ℕ) (sh : Shape) (d : Direction) (sums sums′ scratch scratch′ : List ℕ) (a : Answer) : Type 0 where
   pub answers : a ≡ answer (frameRules sh d (length sums) (length src) (length scratch)) 0
   pub written : sums′ ≡ after a (frameSums src sh d (length sums - 1)) sums
-  pub scratch-kept : scratch′ ≡ after a scratch′ scratch
+  pub scratch-kept : (a .number ≡ 0 → ⊥) → scratch′ ≡ scratch
   pub scratch-length : length scratch′ ≡ length scratch

@@ -22,5 +22,5 @@ lineRules n entries spare =
 pub record SumsLine (f sums sums′ scratch scratch′ : List ℕ) (a : Answer) : Type 0 where
   pub answers : a ≡ answer (lineRules (length f) (length sums) (length scratch)) 0
   pub written : sums′ ≡ after a (lineSums f (length sums - 1)) sums
-  pub scratch-kept : scratch′ ≡ after a scratch′ scratch
+  pub scratch-kept : (a .number ≡ 0 → ⊥) → scratch′ ≡ scratch
   pub scratch-length : length scratch′ ≡ length scratch

@@ -1,7 +1,7 @@
 -- What the private parts keep to.
 --   zeros n              a cleared sums slice of n entries
 --   entryOf K l          the entry of a stretch of l pixels: its length's bin, or the rest where there is none
---   shareOf K j ss       the light of those stretches of ss whose entry is j
+--   entryLight K j ss       the light of those stretches of ss whose entry is j
 --   lit s x              the sums slice s with the light of the stretch x added to its entry
 --   Sound s              a stretch has pixels, and its level is not below its base
 --   Modest s             no entry of a sums slice is above 2^62, so that a line's light can be added to it
@@ -27,7 +27,7 @@ use Rattle.bright.specs.declared.Stretch.{Stretch}
 use Rattle.bridge.specs.Reach.{long}
 use Rattle.bridge.specs.Sums.{light, lightOf}
 use Rattle.sizes.specs.Sums.{lineSums, frameSums}
-use Rattle.sizes.specs.Rose.{petals}
+use Rattle.sizes.specs.Rose.{roseBins}
 
 abbrev pub zeros : ℕ → List ℕ
 zeros n = table (λ (_ : ℕ). 0) n
@@ -35,8 +35,8 @@ zeros n = table (λ (_ : ℕ). 0) n
 abbrev pub entryOf : ℕ → ℕ → ℕ
 entryOf K l = min (l - 1) K
 
-abbrev pub shareOf : ℕ → ℕ → List Stretch → ℕ
-shareOf K j ss = lightOf (λ (l : ℕ). eqb (entryOf K l) j) ss
+abbrev pub entryLight : ℕ → ℕ → List Stretch → ℕ
+entryLight K j ss = lightOf (λ (l : ℕ). eqb (entryOf K l) j) ss
 
 abbrev pub lit : List ℕ → Stretch → List ℕ
 lit s x = set s (entryOf (length s - 1) (long x)) (getD s (entryOf (length s - 1) (long x)) 0 + light x)
@@ -68,5 +68,5 @@ pub record Roomy (sh : Shape) (size spare : ℕ) : Type 0 where
   pub room : scratchFor sh ≤ spare
 
 pub record SetsRow (f : List ℕ) (sh : Shape) (d : ℕ) (row scratch scratch′ : List ℕ) : Type 0 where
-  pub set : row ≡ frameSums f sh (numberedOf d) petals
+  pub set : row ≡ frameSums f sh (numberedOf d) roseBins
   pub kept : length scratch′ ≡ length scratch

@@ -4,7 +4,7 @@
 --   weighted n s         the total of a list, each entry multiplied by its length, where the first entry's length is n
 --   exactest             the largest number up to which every whole number is a float
 --   float n              a whole number as a float
---   over x y             x as a float divided by y as a float, rounded once
+--   quotient x y         x as a float divided by y as a float, rounded once
 --   summaryRules s       the rules of the call
 --   refusedBy n          the summary that the rule number n refuses
 --   summaryOf s          what the call hands back
@@ -40,8 +40,8 @@ abbrev pub float : ℕ → Float
 float n = ofInt binary64 (pos n)
 
 -- 'Each operand is exact, each quotient rounded once.'
-abbrev pub over : ℕ → ℕ → Float
-over x y = div binary64 (float x) (float y)
+abbrev pub quotient : ℕ → ℕ → Float
+quotient x y = div binary64 (float x) (float y)
 
 -- 'sums slice of fewer than 2 or more than 4,097 entries'; 'A is 0'; 'A plus rest, or B, above 2^53'
 abbrev pub summaryRules : List ℕ → List Rule
@@ -60,5 +60,5 @@ unfoldable pub summaryOf : List ℕ → Summary
 summaryOf s =
     let a = answer (summaryRules s) 0 in
     after a
-    (record { mean = over (weighted 1 (binsOf s)) (total (binsOf s)); share = over (total (binsOf s)) (total (binsOf s) + restOf s); number = 0 })
+    (record { mean = quotient (weighted 1 (binsOf s)) (total (binsOf s)); share = quotient (total (binsOf s)) (total (binsOf s) + restOf s); number = 0 })
     (refusedBy (a .number))

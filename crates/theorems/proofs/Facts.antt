@@ -1,5 +1,6 @@
 -- The computing definitions of windows, of the highest and of its direction say what specs/Equation says in facts.
 --   darkest-is, dilated-is, opened-is     a window's darkest pixel, a value of a dilation, an opened pixel; opens-alone: one value alone meets equation (3)
+--   opens-below                           an opened pixel is no brighter than the pixel it came from
 --   index-is                              where a pixel stands on its own line; entry-in, entry-index: pixel number j of a line is found at j
 --   highest-of, leads-of                  the greatest of sixteen values, and the lowest number that reaches it
 -- Assumes nothing.
@@ -32,7 +33,7 @@ use Rattle.frame.specs.Sweep.{Accepted}
 use Rattle.frame.proofs.Walks.{spot}
 use Rattle.frame.proofs.Pixels.{on-its-line, line-interval}
 use Rattle.opening.specs.Pixels.{firstGreatest}
-use Rattle.theorems.specs.Equation.{Holding, Darkest, Dilates, Opens, Place, Highest, Leads}
+use Rattle.theorems.specs.Equation.{Holding, Darkest, Dilates, Opens, OnItsLine, Highest, Leads}
 
 -- ---- windows
 
@@ -99,7 +100,15 @@ opens-alone f L x v w p q = le-antisymm (below v w (p .reached) q) (below w v (q
     below v w (inl (i, h, d)) q = q .above i v h d
     below v w (inr (none, z)) q = omega arith
 
--- ---- a pixel's place on its line
+-- an opening is never brighter than the pixel
+pub opens-below : (f : List ℕ) (L x v : ℕ) → Opens f L x v → v ≤ getD f x 0
+opens-below f L x v p = below (p .reached)
+  where
+    below : ((i : ℕ) × Holding (length f) L x i × Darkest f i L v) ⊎ (((i : ℕ) → Holding (length f) L x i → ⊥) × (v ≡ 0)) → v ≤ getD f x 0
+    below (inl (i, h, d)) = d .below x (h .from) (h .to)
+    below (inr (none, z)) = omega arith
+
+-- ---- a pixel's number on its line
 
 same-is : (c b : Pixel) → samePixel c b ≡ true → c ≡ b
 same-is c b e =
@@ -121,7 +130,7 @@ index-in c (b ∷ cs) m = go (samePixel c b) refl (index-in c cs) (List·Memᴰ�
     go false e ih (inl q) = absurd (true≢false (sym (same-self c) ∙ ap (samePixel c) q ∙ e))
     go false e ih (inr n) = let r = ih n in (omega (arith, r .0), r .1)
 
-pub index-is : (sh : Shape) (d : Direction) (x y : ℕ) → x < sh .width → y < sh .height → Place sh d x y (indexIn (at x y) (pixels sh d (lineOf d x y)))
+pub index-is : (sh : Shape) (d : Direction) (x y : ℕ) → x < sh .width → y < sh .height → OnItsLine sh d x y (indexIn (at x y) (pixels sh d (lineOf d x y)))
 index-is sh d x y h l =
     let r = index-in (at x y) (pixels sh d (lineOf d x y)) (on-its-line sh d x y h l) in
     record { below = r .0; is = r .1 }

@@ -5,6 +5,7 @@
 --   frame-is                                     each pixel of an opened frame, on its own line; frame-lines: so each line is opened
 --   opened-on                                    the same of the definition `openedPixel`, which the next two speak of
 --   highest-is, direction-is                     each pixel of the highest over sixteen directions, and of the direction frame
+--   frame-no-brighter, highest-no-brighter       no pixel of an opened frame, nor of the highest opening, is brighter than the pixel it came from
 --   frame-gaps, highest-gaps, direction-gaps     bytes that are no pixel's never change
 -- Assumes nothing.
 use mathlib.Core.Path.{_≡_, refl, sym, ap, subst, _∙_}
@@ -35,9 +36,9 @@ use Rattle.opening.specs.Pixels.{openedPixel, inDirection}
 use Rattle.opening.specs.Frames.{OpensFrame}
 use Rattle.opening.specs.Sixteen.{FindsHighest}
 use Rattle.opening.specs.Directions.{FindsDirections}
-use Rattle.opening.proofs.Calls.{open-ready}
+use Rattle.opening.proofs.Calls.{open-ready, highest-ready}
 use Rattle.theorems.specs.Equation.{Darkest, Dilates, Opens, OpenedOn, Highest, Leads}
-use Rattle.theorems.proofs.Facts.{darkest-is, dilated-is, opened-is, index-is, entry-in, entry-index, highest-of, leads-of}
+use Rattle.theorems.proofs.Facts.{darkest-is, dilated-is, opened-is, opens-below, index-is, entry-in, entry-index, highest-of, leads-of}
 
 -- ---- lines
 
@@ -112,12 +113,23 @@ map-at h [] j l = absurd (omega arith)
 map-at h (c ∷ cs) zero l = refl
 map-at h (c ∷ cs) (suc j) l = map-at h cs j (omega arith)
 
+on-below : (f : List ℕ) (sh : Shape) (d : Direction) (L x y v : ℕ) → OpenedOn f sh d L x y v → v ≤ getD f (place sh (at x y)) 0
+on-below f sh d L x y v o =
+    let cs = pixels sh d (lineOf d x y) in
+    let h : Pixel → ℕ = λ (c : Pixel). getD f (place sh c) 0 in
+    let there : getD (lineRead f sh d (lineOf d x y)) (o .j) 0 ≡ h (at x y) = map-at h cs (o .j) (o .stands .below) ∙ ap h (o .stands .is) in
+    omega (arith, there, opens-below (lineRead f sh d (lineOf d x y)) (pixelsFor d L) (o .j) v (o .opens))
+
 module _ {f : List ℕ} {sh : Shape} {d : Direction} {L : ℕ} {g g′ t t′ : List ℕ} {a : Answer} (p : OpensFrame f sh d L g g′ t t′ a) (z : a .number ≡ 0) where
   -- 'at each pixel, over all windows of L neighbouring pixels that hold it and lie wholly on its line'
   pub frame-is : (x y : ℕ) → x < sh .width → y < sh .height → OpenedOn f sh d L x y (getD g′ (place sh (at x y)) 0)
   frame-is x y h l =
       subst (OpenedOn f sh d L x y) (sym (p .done z .pixels x y h l))
       (opened-on f sh d L x y (open-ready sh L (length f) (length g) (length t) d (p .answers) z .some) h l)
+
+  -- 'no pixel of the result is brighter than the pixel it came from'
+  pub frame-no-brighter : (x y : ℕ) → x < sh .width → y < sh .height → getD g′ (place sh (at x y)) 0 ≤ getD f (place sh (at x y)) 0
+  frame-no-brighter x y h l = on-below f sh d L x y _ (frame-is x y h l)
 
   -- 'Bytes between rows and after the last pixel of a destination never change.'
   pub frame-gaps : (i : ℕ) → Gap sh i → getD g′ i 0 ≡ getD g i 0
@@ -149,6 +161,14 @@ module _ {f : List ℕ} {sh : Shape} {L : ℕ} {g g′ t t′ : List ℕ} {a : A
   pub highest-is : FindsHighest f sh L g g′ t t′ a → a .number ≡ 0 → (x y : ℕ) → x < sh .width → y < sh .height
       → Highest (λ (n : ℕ). openedPixel f sh (numberedOf n) L x y) (getD g′ (place sh (at x y)) 0)
   highest-is p z x y h l = subst (Highest (inDirection f sh L x y)) (sym (p .done z .pixels x y h l)) (highest-of (inDirection f sh L x y))
+
+  pub highest-no-brighter : FindsHighest f sh L g g′ t t′ a → a .number ≡ 0 → (x y : ℕ) → x < sh .width → y < sh .height
+      → getD g′ (place sh (at x y)) 0 ≤ getD f (place sh (at x y)) 0
+  highest-no-brighter p z x y h l =
+      let top = highest-is p z x y h l .reached in
+      let d = numberedOf (top .0) in
+      let some = highest-ready sh L (length f) (length g) (length t) (p .answers) z .some in
+      omega (arith, top .2, on-below f sh d L x y _ (opened-on f sh d L x y some h l))
 
   pub highest-gaps : FindsHighest f sh L g g′ t t′ a → a .number ≡ 0 → (i : ℕ) → Gap sh i → getD g′ i 0 ≡ getD g i 0
   highest-gaps p z = p .done z .gaps

@@ -1,20 +1,21 @@
 -- Demand 1, call by call, from the contract alone: done if and only if no rule is broken; else the first broken rule's answer, and every lent buffer as it was.
 --   erode-settled, dilate-settled, open-line-settled
 --   gather-settled, scatter-settled, raise-settled
---   open-frame-settled, highest-settled, directions-settled, host-settled
+--   open-frame-settled, highest-settled, directions-settled, host-settled; host-splits: the host can split its number
 --   list-settled
 --   sums-of-line-settled, sums-of-frame-settled, rose-settled, summary-settled
 --   sums-text-settled, read-input-settled
 -- That a call ends, and touches only what was lent, the prover shows of every function; no statement here has to say it.
 -- Assumes nothing.
-use mathlib.Core.Path.{_≡_, refl, sym, ap, _∙_}
+use mathlib.Core.Path.{_≡_, refl, sym, ap, ap₂, _∙_}
 use mathlib.Core.Bool.{Bool, true, false, cond}
 use mathlib.Core.List.{List, [], _∷_}
-use Prim.Native.Nat.{ℕ, _+_, _*_, _^_}
+use Prim.Native.Nat.{ℕ, zero, suc, _+_, _*_, _/_, _%_, _^_}
+use native.Mathlib.Omega.{arith}
 use lib.ListN.{length}
 use lib.IntN.{ℤ}
 use Rattle.answer.specs.declared.Answer.{Answer}
-use Rattle.answer.specs.Rules.{Rule, refusal, answer}
+use Rattle.answer.specs.Rules.{Rule, refusal, answer, by-number}
 use Rattle.answer.proofs.Rules.{numbered, kept, done-kept, after-refused}
 use Rattle.line.specs.Windows.{erodedCount, dilatedCount}
 use Rattle.line.specs.Erosion.{erodeRules, ErodesLine}
@@ -30,27 +31,28 @@ use Rattle.opening.specs.Frames.{openRules, OpensFrame}
 use Rattle.opening.specs.Sixteen.{highestRules, FindsHighest}
 use Rattle.opening.specs.Directions.{directionRules, FindsDirections}
 use Rattle.opening.specs.Host.{HostOpens}
+use Rattle.opening.proofs.Calls.{open-figure}
 use Rattle.bright.specs.declared.Stretch.{Stretch}
 use Rattle.bright.specs.Stretches.{stretches}
 use Rattle.bright.specs.Listing.{listRules, ListsLine}
 use Rattle.sizes.specs.Line.{lineRules, SumsLine}
 use Rattle.sizes.specs.Frame.{frameRules, SumsFrame}
-use Rattle.sizes.specs.Rose.{roseRules, darkRose, Roses}
+use Rattle.sizes.specs.Rose.{roseRules, refusedRose, Roses}
 use Rattle.sizes.specs.declared.summary.Summary.{Summary}
 use Rattle.sizes.specs.Summary.{summaryRules, refusedBy, summaryOf}
 use Rattle.text.specs.declared.input.Input.{Input}
 use Rattle.text.specs.Inputs.{directionIn, widthIn, heightIn, inputRules, inputOf, ReadsInput}
 use Rattle.text.specs.Sums.{sumsText, textRules, WritesSums}
-use Rattle.theorems.specs.Settled.{Breaks, Settled}
+use Rattle.theorems.specs.Settled.{FirstBroken, Settled}
 
 -- ---- the rules of any call
 
-first-broken : (rs : List Rule) (f : ℕ) → (answer rs f .number ≡ 0 → ⊥) → Breaks rs (answer rs f)
+first-broken : (rs : List Rule) (f : ℕ) → (answer rs f .number ≡ 0 → ⊥) → FirstBroken rs (answer rs f)
 first-broken [] f refused = absurd (refused refl)
 first-broken (r ∷ rs) f refused = go (first-broken rs f) (r .broken) refl refused
   where
-    go : ((answer rs f .number ≡ 0 → ⊥) → Breaks rs (answer rs f)) → (b : Bool) → r .broken ≡ b
-        → (cond b (refusal (r .number) (r .figure)) (answer rs f) .number ≡ 0 → ⊥) → Breaks (r ∷ rs) (cond b (refusal (r .number) (r .figure)) (answer rs f))
+    go : ((answer rs f .number ≡ 0 → ⊥) → FirstBroken rs (answer rs f)) → (b : Bool) → r .broken ≡ b
+        → (cond b (refusal (r .number) (r .figure)) (answer rs f) .number ≡ 0 → ⊥) → FirstBroken (r ∷ rs) (cond b (refusal (r .number) (r .figure)) (answer rs f))
     go ih true e no-work = record { before = []; first = r; behind = rs; is = refl; kept = tt; broken = e; answers = refl }
     go ih false e no-work =
         let later = ih no-work in
@@ -64,13 +66,26 @@ first-broken (r ∷ rs) f refused = go (first-broken rs f) (r .broken) refl refu
           answers = later .answers;
         }
 
-settled : (rs : List Rule) (f : ℕ) {a : Answer} {Same : Type 0} → numbered rs ≡ true → a ≡ answer rs f → ((a .number ≡ 0 → ⊥) → Same) → Settled rs f a Same
+settled : (rs : List Rule) (f : ℕ) {a : Answer} {Unchanged : Type 0} → numbered rs ≡ true → a ≡ answer rs f → ((a .number ≡ 0 → ⊥) → Unchanged) → Settled rs f a Unchanged
 settled rs f {a} n e same =
     record {
       done-if = λ k. e ∙ done-kept rs f k;
       only-if = λ z. kept rs f n (rw e at z);
       refused = λ r. (rw e (first-broken rs f (rw e at r)), same r);
     }
+
+-- rules that hand back 0, all of them
+abbrev Figureless : List Rule → Type 0
+Figureless [] = Unit
+Figureless (r ∷ rs) = (r .figure ≡ 0) × Figureless rs
+
+no-figure : (rs : List Rule) → Figureless rs → answer rs 0 .figure ≡ 0
+no-figure [] z = refl
+no-figure (r ∷ rs) z = go (r .broken) (no-figure rs (z .1))
+  where
+    go : (b : Bool) → answer rs 0 .figure ≡ 0 → cond b (refusal (r .number) (r .figure)) (answer rs 0) .figure ≡ 0
+    go true later = z .0
+    go false later = later
 
 -- ---- the calls
 
@@ -113,6 +128,13 @@ module _ {f : List ℕ} {sh : Shape} {L : ℕ} {g g′ t t′ : List ℕ} where
       → Settled (openRules sh d L (length f) (length g) (length t)) 0 (p .a) ((g′ ≡ g) × (t′ ≡ t)) × (n ≡ p .a .number * 2 ^ 32 + p .a .figure)
   host-settled p = (open-frame-settled (p .opens), p .gives)
 
+  -- the figure stays below 2^32, so that the number has both: the upper half is the refusal's number, the lower half its figure
+  pub host-splits : {d : Direction} {n : ℕ} (p : HostOpens f sh d L g g′ t t′ n) → (n / 2 ^ 32 ≡ p .a .number) × (n % 2 ^ 32 ≡ p .a .figure)
+  host-splits {d} p =
+      let small = ap (λ (a : Answer). a .figure) (p .opens .answers) in
+      let below = open-figure sh L (length f) (length g) (length t) d in
+      (omega (arith, p .gives, small, below), omega (arith, p .gives, small, below))
+
 pub list-settled : {f : List ℕ} {table table′ : List Stretch} {t t′ : List ℕ} {a : Answer} → ListsLine f table table′ t t′ a
     → Settled (listRules (length f) (length t) (length table) (length (stretches f))) (length (stretches f)) a ((table′ ≡ table) × (t′ ≡ t))
 list-settled {table = table} {t = t} {a = a} p =
@@ -121,25 +143,37 @@ list-settled {table = table} {t = t} {a = a} p =
 pub sums-of-line-settled : {f sums sums′ t t′ : List ℕ} {a : Answer} → SumsLine f sums sums′ t t′ a
     → Settled (lineRules (length f) (length sums) (length t)) 0 a ((sums′ ≡ sums) × (t′ ≡ t))
 sums-of-line-settled {sums = sums} {t = t} {a = a} p =
-    settled _ _ refl (p .answers) (λ r. (p .written ∙ after-refused a _ sums r, p .scratch-kept ∙ after-refused a _ t r))
+    settled _ _ refl (p .answers) (λ r. (p .written ∙ after-refused a _ sums r, p .scratch-kept r))
 
 pub sums-of-frame-settled : {f : List ℕ} {sh : Shape} {d : Direction} {sums sums′ t t′ : List ℕ} {a : Answer} → SumsFrame f sh d sums sums′ t t′ a
     → Settled (frameRules sh d (length sums) (length f) (length t)) 0 a ((sums′ ≡ sums) × (t′ ≡ t))
 sums-of-frame-settled {sums = sums} {t = t} {a = a} p =
-    settled _ _ refl (p .answers) (λ r. (p .written ∙ after-refused a _ sums r, p .scratch-kept ∙ after-refused a _ t r))
+    settled _ _ refl (p .answers) (λ r. (p .written ∙ after-refused a _ sums r, p .scratch-kept r))
 
--- the answer is the one that `rose_refusal` gives; 'A refused rose is a table of 64-bit largest numbers'
-pub rose-settled : {f : List ℕ} {sh : Shape} {t t′ : List ℕ} {r : List (List ℕ)} → Roses f sh t t′ r
-    → Settled (roseRules sh (length f) (length t)) 0 (answer (roseRules sh (length f) (length t)) 0) ((r ≡ darkRose) × (t′ ≡ t))
-rose-settled {f} {sh} {t} p =
-    let a = answer (roseRules sh (length f) (length t)) 0 in
-    settled _ _ refl refl (λ r. (p .rows ∙ after-refused a _ darkRose r, p .scratch-kept ∙ after-refused a _ t r))
+-- 'A refused rose is a table of 64-bit largest numbers ..; a second call gives the refusal's number.' That call's answer is a
+pub rose-settled : {f : List ℕ} {sh : Shape} {t t′ : List ℕ} {r : List (List ℕ)} {a : Answer} → Roses f sh t t′ r → a ≡ answer (roseRules sh (length f) (length t)) 0
+    → Settled (roseRules sh (length f) (length t)) 0 a ((r ≡ refusedRose) × (t′ ≡ t))
+rose-settled {f} {sh} {t} {a = a} p e =
+    let says = answer (roseRules sh (length f) (length t)) 0 in
+    settled _ _ refl e (λ r. (p .rows ∙ after-refused says _ refusedRose (rw e at r), p .scratch-kept (rw e at r)))
 
--- 'a refused summary has both floats 0'
+summary-number : (n : ℕ) (x : Summary) → x .number ≡ 0 → by-number n x (refusedBy n) .number ≡ n
+summary-number zero x z = z
+summary-number (suc n) x z = refl
+
+-- the number handed back is 0 where no rule is broken, else that of the first broken one, whose figure is 0; 'a refused summary has both floats 0'
 pub summary-settled : (s : List ℕ) {r : Summary} → r ≡ summaryOf s
-    → Settled (summaryRules s) 0 (answer (summaryRules s) 0) (r ≡ refusedBy (answer (summaryRules s) 0 .number))
+    → Settled (summaryRules s) 0 (record { number = r .number; figure = 0 }) (r ≡ refusedBy (r .number))
 unfolding summaryOf
-summary-settled s e = settled _ _ refl refl (λ r. e ∙ after-refused (answer (summaryRules s) 0) _ (refusedBy (answer (summaryRules s) 0 .number)) r)
+summary-settled s {r} e =
+    settled _ _ refl (ap₂ (λ (n f : ℕ). record { number = n; figure = f }) same (sym (no-figure (summaryRules s) (refl, (refl, (refl, tt))))))
+    (λ no-work. e ∙ after-refused says _ (refusedBy (says .number)) (rw same at no-work) ∙ ap refusedBy (sym same))
+  where
+    says : Answer
+    says = answer (summaryRules s) 0
+
+    same : r .number ≡ says .number
+    same = ap (λ (r : Summary). r .number) e ∙ summary-number (says .number) _ refl
 
 -- rules 2, 4 and 6
 pub sums-text-settled : {d : ℕ} {s dst dst′ : List ℕ} {a : Answer} → WritesSums d s dst dst′ a

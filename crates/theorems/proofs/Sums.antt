@@ -2,19 +2,26 @@
 --   line-bin, line-rest, line-whole      each bin and the rest of a line; together they are the light in the line
 --   frame-bin, frame-rest, frame-whole   the same of a frame in a direction; frame-sum-opened: its sum for a length is the light of the opened frame
 --   rose-row, rose-whole                 each row of a done rose; rose-unmarked: no entry of it is the mark of a refused rose
---   summary-is                           mean and share of a done summary
+--   summary-is                           mean and share of a done summary; summary-exact, summary-rounded: exact operands, rounded once
+--   summary-refused                      both floats of a refused one are +0.0
 -- Demand 3's last sentence, bins and rest from the list of stretches, is in Stretches.
 -- Assumes nothing.
 use mathlib.Core.Path.{_≡_, refl, sym, ap, _∙_}
+use mathlib.Core.Bool.{false}
 use mathlib.Core.List.{List, []}
 use Prim.Native.Nat.{ℕ, suc, _+_, _-_, _≤_, _<_, _^_}
+use native.Mathlib.Omega.{arith}
+use lib.Dec.{ltb}
+use lib.Ieee.{fin, binary64, ofInt, round, toUnsigned}
 use lib.IntN.{pos, _+ℤ_}
 use lib.ListN.{length, getD}
+use borrow.Author.Tests.{ltb-false, eqb-false}
 use Rattle.lists.specs.Extremes.{total}
+use Rattle.lists.proofs.Cases.{neither-left, neither-right}
 use Rattle.lists.proofs.Tables.{getD-table, table-same}
 use Rattle.answer.specs.declared.Answer.{Answer}
-use Rattle.answer.specs.Rules.{answer}
-use Rattle.answer.proofs.Rules.{Kept, after-done}
+use Rattle.answer.specs.Rules.{Kept, answer}
+use Rattle.answer.proofs.Rules.{done-kept, after-done}
 use Rattle.frame.specs.declared.direction.Direction.{Direction}
 use Rattle.frame.specs.declared.shape.Shape.{Shape}
 use Rattle.frame.specs.Direction.{numberedOf}
@@ -28,13 +35,14 @@ use Rattle.bridge.specs.Sums.{sumFor, binFor, restFor}
 use Rattle.sizes.specs.Sums.{lineSums, frameSum, frameSums}
 use Rattle.sizes.specs.Line.{SumsLine}
 use Rattle.sizes.specs.Frame.{SumsFrame}
-use Rattle.sizes.specs.Rose.{roseRules, roseOf, darkRose, Roses}
+use Rattle.sizes.specs.Rose.{roseRules, roseOf, refusedRose, Roses}
 use Rattle.sizes.specs.declared.summary.Summary.{Summary}
-use Rattle.sizes.specs.Summary.{binsOf, restOf, weighted, over, summaryRules, summaryOf}
+use Rattle.sizes.specs.Summary.{binsOf, restOf, weighted, exactest, float, quotient, summaryRules, summaryOf}
 use Rattle.sizes.proofs.Bins.{sums-bin, sums-rest, line-total}
 use Rattle.sizes.proofs.Calls.{frame-fits}
 use Rattle.sizes.proofs.Gathered.{frame-total}
-use Rattle.sizes.proofs.Petals.{rose-fits, sum-never-largest}
+use Rattle.sizes.proofs.Rows.{rose-fits, sum-never-largest}
+use Rattle.sizes.proofs.Summaries.{float-back, quotient-rounded}
 use Rattle.theorems.proofs.Refusals.{rose-settled, summary-settled}
 use Rattle.theorems.proofs.Openings.{frame-lines}
 
@@ -79,12 +87,12 @@ frame-sum-opened {f} {sh} {d} {L} {g} {g′} {t} p z =
 
 module _ {f : List ℕ} {sh : Shape} {t t′ : List ℕ} {r : List (List ℕ)} (p : Roses f sh t t′ r) (ok : Kept (roseRules sh (length f) (length t))) where
   zero-number : answer (roseRules sh (length f) (length t)) 0 .number ≡ 0
-  zero-number = ap (λ (a : Answer). a .number) (rose-settled p .done-if ok)
+  zero-number = ap (λ (a : Answer). a .number) (rose-settled p refl .done-if ok)
 
   -- 'row d has 32 bins and the rest of numbered direction d'
   pub rose-row : (n : ℕ) → n < 16 → getD r n [] ≡ frameSums f sh (numberedOf n) 32
   rose-row n h =
-      ap (λ (l : List (List ℕ)). getD l n []) (p .rows ∙ after-done (answer (roseRules sh (length f) (length t)) 0) (roseOf f sh) darkRose zero-number)
+      ap (λ (l : List (List ℕ)). getD l n []) (p .rows ∙ after-done (answer (roseRules sh (length f) (length t)) 0) (roseOf f sh) refusedRose zero-number)
       ∙ getD-table [] (λ (n : ℕ). frameSums f sh (numberedOf n) 32) 16 n h
 
   accepted : (n : ℕ) → n < 16 → Accepted sh (numberedOf n)
@@ -98,12 +106,51 @@ module _ {f : List ℕ} {sh : Shape} {t t′ : List ℕ} {r : List (List ℕ)} (
   pub rose-unmarked : ((i : ℕ) → getD f i 0 ≤ 255) → (n j : ℕ) → n < 16 → getD (getD r n []) j 0 < 2 ^ 64 - 1
   rose-unmarked bytes n j h = rw (rose-row n h) (sum-never-largest f sh (numberedOf n) 32 j (accepted n h) bytes)
 
--- ---- the summary
+-- ---- the summary: A is the total of the bins, B the same with each bin multiplied by its length
 
--- 'the mean, B as a float divided by A as a float, and the share, A divided by A plus the rest'
-pub summary-is : (s : List ℕ) {r : Summary} → r ≡ summaryOf s → Kept (summaryRules s)
-    → r ≡ record { mean = over (weighted 1 (binsOf s)) (total (binsOf s)); share = over (total (binsOf s)) (total (binsOf s) + restOf s); number = 0 }
-unfolding summaryOf
-summary-is s e ok =
-    let z : answer (summaryRules s) 0 .number ≡ 0 = ap (λ (a : Answer). a .number) (summary-settled s e .done-if ok) in
-    e ∙ after-done (answer (summaryRules s) 0) _ _ z
+module _ (s : List ℕ) {r : Summary} (e : r ≡ summaryOf s) where
+  abbrev A : ℕ
+  A = total (binsOf s)
+
+  abbrev B : ℕ
+  B = weighted 1 (binsOf s)
+
+  module _ (z : r .number ≡ 0) where
+    -- 'the mean, B as a float divided by A as a float, and the share, A divided by A plus the rest'
+    pub summary-is : r ≡ record { mean = quotient B A; share = quotient A (A + restOf s); number = 0 }
+    unfolding summaryOf
+    summary-is =
+        e ∙ after-done (answer (summaryRules s) 0) _ _ (ap (λ (a : Answer). a .number) (done-kept (summaryRules s) 0 (summary-settled s e .only-if z)))
+
+    within : (0 < A) × (B ≤ exactest) × (A + restOf s ≤ exactest)
+    within =
+        let ok = summary-settled s e .only-if z in
+        let some = eqb-false A 0 (ok .1 .0) in
+        let long = ltb-false exactest B (neither-right (ltb exactest (A + restOf s)) (ltb exactest B) (ok .1 .1 .0)) in
+        let all = ltb-false exactest (A + restOf s) (neither-left (ltb exactest (A + restOf s)) (ltb exactest B) (ok .1 .1 .0)) in
+        (pos-of A some, long, all)
+      where
+        pos-of : (n : ℕ) → (n ≡ 0 → ⊥) → 0 < n
+        pos-of n some = omega (arith, some)
+
+    -- 'Each operand is exact': as a float and back, it is unchanged
+    pub summary-exact : (toUnsigned 64 (float B) ≡ B) × (toUnsigned 64 (float A) ≡ A) × (toUnsigned 64 (float (A + restOf s)) ≡ A + restOf s)
+    summary-exact =
+        let all = within .2 in
+        (float-back B (within .1), float-back A (omega arith), float-back (A + restOf s) all)
+
+    -- 'each quotient rounded once': `round` gives the float nearest to a fraction of whole numbers
+    pub summary-rounded : (r .mean ≡ round binary64 false B A) × (r .share ≡ round binary64 false A (A + restOf s))
+    summary-rounded =
+        let some = within .0 in
+        let all = within .2 in (
+          ap (λ (r : Summary). r .mean) summary-is ∙ quotient-rounded B A (within .1) (omega arith) some,
+          ap (λ (r : Summary). r .share) summary-is ∙ quotient-rounded A (A + restOf s) (omega arith) all (omega arith),
+        )
+
+  -- 'a refused summary has both floats 0': +0.0
+  pub summary-refused : (r .number ≡ 0 → ⊥) → (r .mean ≡ fin false 0 (pos 0)) × (r .share ≡ fin false 0 (pos 0))
+  unfolding ofInt
+  summary-refused no-work =
+      let is = summary-settled s e .refused no-work .1 in
+      (ap (λ (r : Summary). r .mean) is, ap (λ (r : Summary). r .share) is)

@@ -1,17 +1,19 @@
 -- 'Versions to be shown unprovable': on an input that is written out, the contract does not allow the outcome of that version.
 -- That it allows some outcome of every input, the proved code shows.
---   refusing-..                       a call that refuses everything, for each numbered call, `read_input`, the rose and the summary
+--   refusing-..                       a call that refuses everything, for each numbered call, the host's entry, `read_input`, the rose, its refusal and the summary
 --   line-dark, line-copied, line-unwritten        an opening of a line that is 0 everywhere, that copies its source, that writes no pixel
 --   frame-dark, frame-copied, frame-unwritten     the same of a frame
+--   highest-dark, highest-unwritten, directions-dark, directions-unwritten    the highest opening or its directions, 0 everywhere or not written
 --   first-row-only, first-line-only   a frame opening that treats its first line and copies the rest, along and on the diagonal
 --   count-invented, whole-line-only   a listing with an invented count, or with only the whole line
---   across-for-along, tie-to-last     directions filed under each other's name, or a tie given to the last
+--   across-for-along, rows-exchanged, numbers-exchanged    results filed under the other's direction: of a frame opening, the rose and the direction frame
+--   tie-to-last                       a tie given to the last
 --   leading-zero                      a reading that takes a number with a leading zero
 -- Assumes nothing.
 use mathlib.Core.Path.{_≡_, refl, sym, ap, _∙_}
 use mathlib.Core.Bool.{true}
 use mathlib.Core.List.{List, [], _∷_}
-use Prim.Native.Nat.{ℕ, _-_, _^_}
+use Prim.Native.Nat.{ℕ, _+_, _-_, _*_, _^_}
 use native.Mathlib.Omega.{arith}
 use lib.IntN.{pos}
 use lib.ListN.{getD, drop, replicate}
@@ -19,7 +21,7 @@ use Rattle.lists.specs.Tables as tables
 use Rattle.lists.specs.Extremes as extremes
 use Rattle.lists.specs.Stores.{front}
 use Rattle.answer.specs.declared.Answer.{Answer}
-use Rattle.answer.specs.Rules.{done, after}
+use Rattle.answer.specs.Rules.{done, answer, after}
 use Rattle.line.specs.Windows as windows
 use Rattle.line.specs.Windows.{opened}
 use Rattle.line.specs.Erosion.{ErodesLine}
@@ -27,7 +29,7 @@ use Rattle.line.specs.Dilation.{DilatesLine}
 use Rattle.line.specs.Opening.{OpensLine}
 use Rattle.frame.specs.declared.direction.Direction.{Direction}
 use Rattle.frame.specs.declared.shape.Shape.{Shape}
-use Rattle.frame.specs.Direction.{dir, along, isDirection}
+use Rattle.frame.specs.Direction.{dir, along, isDirection, numberedOf}
 use Rattle.frame.specs.Shape.{shape}
 use Rattle.frame.specs.Lines as lines
 use Rattle.gathering.specs.Gathering.{Gathers}
@@ -38,13 +40,15 @@ use Rattle.opening.specs.Pixels.{openedPixel}
 use Rattle.opening.specs.Frames.{OpensFrame}
 use Rattle.opening.specs.Sixteen.{FindsHighest}
 use Rattle.opening.specs.Directions.{FindsDirections}
+use Rattle.opening.specs.Host.{HostOpens}
 use Rattle.bright.specs.declared.Stretch.{Stretch}
 use Rattle.bright.specs.Stretches as stretching
 use Rattle.bright.specs.Stretches.{stretches}
 use Rattle.bright.specs.Listing.{ListsLine}
+use Rattle.sizes.specs.Sums.{frameSums}
 use Rattle.sizes.specs.Line.{SumsLine}
 use Rattle.sizes.specs.Frame.{SumsFrame}
-use Rattle.sizes.specs.Rose.{darkRose, Roses}
+use Rattle.sizes.specs.Rose.{roseRules, refusedRose, Roses}
 use Rattle.sizes.specs.declared.summary.Summary.{Summary}
 use Rattle.sizes.specs.Summary.{weighted, summaryOf}
 use Rattle.text.specs.declared.input.Input.{Input}
@@ -88,6 +92,9 @@ diagonal = dir (pos 1) (pos 1)
 abbrev Refused : Answer → Type 0
 Refused a = a .number ≡ 0 → ⊥
 
+done-number : {a : Answer} → a ≡ done 0 → a .number ≡ 0
+done-number e = ap (λ (a : Answer). a .number) e
+
 answered : {a b : Answer} → a ≡ b → b .number ≡ 0 → Refused a → ⊥
 answered e z refused = refused (ap (λ (a : Answer). a .number) e ∙ z)
 
@@ -129,12 +136,20 @@ module _ {g′ t′ : List ℕ} {a : Answer} where
   pub refusing-sums-of-frame : SumsFrame strand small diagonal nines g′ spare t′ a → Refused a → ⊥
   refusing-sums-of-frame p = answered (p .answers) refl
 
+pub refusing-host : {g′ t′ : List ℕ} {n : ℕ} → HostOpens strand small diagonal 3 sixes g′ spare t′ n → (n ≡ 0 → ⊥) → ⊥
+refusing-host p refused =
+    let none : p .a ≡ done 0 = p .opens .answers in
+    refused (p .gives ∙ ap (λ (a : Answer). a .number * 2 ^ 32 + a .figure) none)
+
 -- a refused rose has the largest number in every entry
-pub refusing-rose : {t′ : List ℕ} → Roses strand small spare t′ darkRose → ⊥
+pub refusing-rose : {t′ : List ℕ} → Roses strand small spare t′ refusedRose → ⊥
 unfolding tables.each extremes.least extremes.greatest extremes.total windows.opened lines.r
 refusing-rose p =
     let first : _≡_ {A = ℕ} (2 ^ 64 - 1) 24 = ap (λ (r : List (List ℕ)). getD (getD r 0 []) 0 0) (p .rows) in
     omega (arith, first)
+
+pub refusing-rose-refusal : {a : Answer} → a ≡ answer (roseRules small 11 40) 0 → Refused a → ⊥
+refusing-rose-refusal e = answered e refl
 
 pub refusing-summary : {r : Summary} → r ≡ summaryOf (2 ∷ 4 ∷ 3 ∷ 10 ∷ []) → (r .number ≡ 0 → ⊥) → ⊥
 unfolding summaryOf extremes.total weighted
@@ -207,6 +222,26 @@ module _ {t′ : List ℕ} {a : Answer} where
   unfolding tables.each extremes.least extremes.greatest windows.opened lines.r lines.indexIn leading.openedPixel
   first-line-only p = let beside : _≡_ {A = ℕ} 1 0 = painted refl p .pixels 1 0 (omega arith) (omega arith) in omega (arith, beside)
 
+-- ---- the highest opening and its direction, dark or not written
+
+module _ {t′ : List ℕ} {a : Answer} where
+  pub highest-dark : FindsHighest strand small 3 sixes (0 ∷ 0 ∷ 0 ∷ 8 ∷ 0 ∷ 0 ∷ 0 ∷ 8 ∷ 0 ∷ 0 ∷ 0 ∷ []) spare t′ a → ⊥
+  unfolding tables.each extremes.least extremes.greatest windows.opened lines.r lines.indexIn leading.openedPixel
+  highest-dark p = let corner : _≡_ {A = ℕ} 0 9 = p .done (done-number (p .answers)) .pixels 0 0 (omega arith) (omega arith) in omega (arith, corner)
+
+  pub highest-unwritten : FindsHighest strand small 3 sixes sixes spare t′ a → ⊥
+  unfolding tables.each extremes.least extremes.greatest windows.opened lines.r lines.indexIn leading.openedPixel
+  highest-unwritten p = let corner : _≡_ {A = ℕ} 6 9 = p .done (done-number (p .answers)) .pixels 0 0 (omega arith) (omega arith) in omega (arith, corner)
+
+  -- the diagonal is first held by direction 3
+  pub directions-dark : FindsDirections strand small 3 sixes (0 ∷ 0 ∷ 0 ∷ 8 ∷ 0 ∷ 0 ∷ 0 ∷ 8 ∷ 0 ∷ 0 ∷ 0 ∷ []) spare t′ a → ⊥
+  unfolding tables.each extremes.least extremes.greatest windows.opened lines.r lines.indexIn leading.openedPixel leading.firstGreatest
+  directions-dark p = let corner : _≡_ {A = ℕ} 0 3 = p .done (done-number (p .answers)) .pixels 0 0 (omega arith) (omega arith) in omega (arith, corner)
+
+  pub directions-unwritten : FindsDirections strand small 3 sixes sixes spare t′ a → ⊥
+  unfolding tables.each extremes.least extremes.greatest windows.opened lines.r lines.indexIn leading.openedPixel leading.firstGreatest
+  directions-unwritten p = let corner : _≡_ {A = ℕ} 6 3 = p .done (done-number (p .answers)) .pixels 0 0 (omega arith) (omega arith) in omega (arith, corner)
+
 -- ---- 'a listing with an invented count or only the whole line (demand 3)'
 
 module _ {table′ : List Stretch} {t′ : List ℕ} {a : Answer} where
@@ -236,18 +271,25 @@ module _ {rest t′ : List ℕ} {a : Answer} where
   -- what is opened across, under the name of along: pixel (0, 0) may be 1, (0, 1) may not
   pub across-for-along : OpensFrame bar small along 3 sixes (1 ∷ 1 ∷ 1 ∷ 8 ∷ 1 ∷ rest) spare t′ a → ⊥
   unfolding tables.each extremes.least extremes.greatest windows.opened lines.r lines.indexIn leading.openedPixel
-  across-for-along p =
-      let z : a .number ≡ 0 = ap (λ (a : Answer). a .number) (p .answers) in
-      let below : _≡_ {A = ℕ} 1 9 = p .done z .pixels 0 1 (omega arith) (omega arith) in
-      omega (arith, below)
+  across-for-along p = let below : _≡_ {A = ℕ} 1 9 = p .done (done-number (p .answers)) .pixels 0 1 (omega arith) (omega arith) in omega (arith, below)
+
+  -- along, number 0, holds every pixel of a bright row; 8, across, stands in its place
+  pub numbers-exchanged : FindsDirections bar small 3 sixes (8 ∷ rest) spare t′ a → ⊥
+  unfolding tables.each extremes.least extremes.greatest windows.opened lines.r lines.indexIn leading.openedPixel leading.firstGreatest
+  numbers-exchanged p = let corner : _≡_ {A = ℕ} 8 0 = p .done (done-number (p .answers)) .pixels 0 0 (omega arith) (omega arith) in omega (arith, corner)
 
   -- 3, 4 and 5 all hold the diagonal of a frame of 3 by 3 pixels; the lowest number has it
   pub tie-to-last : FindsDirections strand small 3 sixes (5 ∷ rest) spare t′ a → ⊥
   unfolding tables.each extremes.least extremes.greatest windows.opened lines.r lines.indexIn leading.openedPixel leading.firstGreatest
-  tie-to-last p =
-      let z : a .number ≡ 0 = ap (λ (a : Answer). a .number) (p .answers) in
-      let corner : _≡_ {A = ℕ} 5 3 = p .done z .pixels 0 0 (omega arith) (omega arith) in
-      omega (arith, corner)
+  tie-to-last p = let corner : _≡_ {A = ℕ} 5 3 = p .done (done-number (p .answers)) .pixels 0 0 (omega arith) (omega arith) in omega (arith, corner)
+
+-- the row of across under the number of along: the first bin of a bright row is 0 along, and 24 across
+pub rows-exchanged : {t′ : List ℕ} {r : List (List ℕ)} → Roses bar small spare t′ r → getD r 0 [] ≡ frameSums bar small (numberedOf 8) 32 → ⊥
+unfolding tables.each extremes.least extremes.greatest extremes.total windows.opened lines.r
+rows-exchanged p across =
+    let along-row = ap (λ (r : List (List ℕ)). getD r 0 []) (p .rows) in
+    let first : _≡_ {A = ℕ} 0 24 = ap (λ (l : List ℕ). getD l 0 0) (sym along-row ∙ across) in
+    omega (arith, first)
 
 -- ---- 'Numbers are decimal without leading zero'
 

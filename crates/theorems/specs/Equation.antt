@@ -3,7 +3,7 @@
 --   Darkest f i L v       v is the darkest of the L pixels from i on
 --   Dilates e L x v       v is the greatest of those values i of e with x − L + 1 ≤ i ≤ x
 --   Opens f L x v         equation (3): v is the highest of the darkest values of the windows that hold x, and 0 where no window fits
---   Place sh d x y j      pixel (x, y) is number j of its own line
+--   OnItsLine sh d x y j  pixel (x, y) is number j of its own line
 --   OpenedOn f sh d L x y v    v is pixel (x, y) of the frame f opened in direction d
 --   Highest F v           v is the greatest of F at the sixteen direction numbers
 --   Leads F n             n is the lowest direction number at which F is greatest
@@ -39,14 +39,14 @@ pub record Opens (f : List ℕ) (L x v : ℕ) : Type 0 where
   pub above : (i w : ℕ) → Holding (length f) L x i → Darkest f i L w → w ≤ v
   pub reached : ((i : ℕ) × Holding (length f) L x i × Darkest f i L v) ⊎ (((i : ℕ) → Holding (length f) L x i → ⊥) × (v ≡ 0))
 
-pub record Place (sh : Shape) (d : Direction) (x y j : ℕ) : Type 0 where
+pub record OnItsLine (sh : Shape) (d : Direction) (x y j : ℕ) : Type 0 where
   pub below : j < length (pixels sh d (lineOf d x y))
   pub is : getD (pixels sh d (lineOf d x y)) j (at 0 0) ≡ at x y
 
 -- v is what equation (3) says of pixel (x, y) of the frame f at its place on its own line in direction d, as read
 pub record OpenedOn (f : List ℕ) (sh : Shape) (d : Direction) (L x y v : ℕ) : Type 0 where
   pub j : ℕ
-  pub stands : Place sh d x y j
+  pub stands : OnItsLine sh d x y j
   pub opens : Opens (lineRead f sh d (lineOf d x y)) (pixelsFor d L) j v
 
 -- 'the highest over sixteen directions'

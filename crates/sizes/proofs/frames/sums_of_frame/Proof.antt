@@ -18,7 +18,7 @@ returns c =
     record {
       answers = c .before .before .refusal .ensures;
       written = sym (after-refused a _ _ refused);
-      scratch-kept = sym (after-refused a _ _ refused);
+      scratch-kept = λ _. refl;
       scratch-length = refl;
     }
 
@@ -48,7 +48,7 @@ returns-2 c =
     record {
       answers = c .before .before .before .before .before .before .before .before .before .refusal .ensures;
       written = set .set ∙ sym (after-done a _ _ done);
-      scratch-kept = sym (after-done a _ _ done);
+      scratch-kept = λ refused. absurd (refused done);
       scratch-length = set .kept;
     }
 

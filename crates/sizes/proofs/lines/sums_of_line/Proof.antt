@@ -20,7 +20,7 @@ returns c =
     record {
       answers = c .before .before .refusal .ensures;
       written = sym (after-refused a _ _ refused);
-      scratch-kept = sym (after-refused a _ _ refused);
+      scratch-kept = λ _. refl;
       scratch-length = refl;
     }
 
@@ -59,7 +59,7 @@ returns-2 c =
     record {
       answers = answers;
       written = line-added line (length sums) _ _ (omega (arith, fits .2)) cleared (added .0) ∙ sym (after-done a _ _ done);
-      scratch-kept = sym (after-done a _ _ done);
+      scratch-kept = λ refused. absurd (refused done);
       scratch-length = added .1;
     }
 

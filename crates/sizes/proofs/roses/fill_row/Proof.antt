@@ -1,5 +1,5 @@
 -- The sums of a numbered direction are not refused.
-use Rattle.sizes.proofs.Petals.{row-set}
+use Rattle.sizes.proofs.Rows.{row-set}
 use borrow.Author.Needs.{needs}
 use Rattle.sizes.proofs.roses.fill_row.Statement.{statement}
 use Rattle.sizes.proofs.roses.fill_row.Tie as tie

@@ -3,7 +3,7 @@ use mathlib.Core.Path.{_≡_, refl, _∙_}
 use Prim.Native.Nat.{_-_, _≤_}
 use native.Mathlib.Omega.{arith}
 use lib.ListN.{length}
-use Rattle.sizes.proofs.Petals.{rose-fits, rose-refused, rose-done, Filling, filling-start, filling-more, filling-end}
+use Rattle.sizes.proofs.Rows.{rose-fits, rose-refused, rose-done, Filling, filling-start, filling-more, filling-end}
 use borrow.Author.Needs.{needs}
 use Rattle.sizes.proofs.roses.rose.Statement.{statement}
 use Rattle.sizes.proofs.roses.rose.Tie as tie

@@ -32,7 +32,7 @@ use Rattle.frame.proofs.Directions.{numbered-accepted}
 use Rattle.frame.proofs.Shapes.{framed}
 use Rattle.sizes.specs.Sums.{frameSums}
 use Rattle.sizes.specs.Frame.{SumsFrame}
-use Rattle.sizes.specs.Rose.{petals, roseRules, darkRose, roseOf, Roses}
+use Rattle.sizes.specs.Rose.{roseBins, roseRules, refusedRose, roseOf, Roses}
 use Rattle.sizes.specs.Steps.{Roomy, SetsRow}
 use Rattle.sizes.proofs.Gathered.{frame-total}
 
@@ -61,25 +61,25 @@ module _ (f : List ℕ) (sh : Shape) where
   -- the rows below d are filled
   pub record Filling (d : ℕ) (rows : List (List ℕ)) : Type 0 where
     pub same : length rows ≡ 16
-    pub filled : (k : ℕ) → k < d → getD rows k [] ≡ frameSums f sh (numberedOf k) petals
+    pub filled : (k : ℕ) → k < d → getD rows k [] ≡ frameSums f sh (numberedOf k) roseBins
 
   pub filling-start : (rows : List (List ℕ)) → length rows ≡ 16 → Filling 0 rows
   filling-start rows e = record { same = e; filled = λ k l. absurd (not-suc-le-zero l) }
 
-  pub filling-more : (d : ℕ) (rows : List (List ℕ)) (row : List ℕ) → d < 16 → Filling d rows → row ≡ frameSums f sh (numberedOf d) petals
+  pub filling-more : (d : ℕ) (rows : List (List ℕ)) (row : List ℕ) → d < 16 → Filling d rows → row ≡ frameSums f sh (numberedOf d) roseBins
       → Filling (d + 1) (set rows d row)
   filling-more d rows row h g e =
       let room : d < length rows = omega (arith, g .same) in
       record {
         same = simp length-set (g .same);
         filled =
-            below-more (λ k. getD (set rows d row) k [] ≡ frameSums f sh (numberedOf k) petals) d
+            below-more (λ k. getD (set rows d row) k [] ≡ frameSums f sh (numberedOf k) roseBins) d
             (λ k l. getD-set-other rows d k row [] (ne-of-lt l) ∙ g .filled k l)
             (getD-set-same rows d row [] room ∙ e);
       }
 
   pub filling-end : (rows : List (List ℕ)) → Filling 16 rows → rows ≡ roseOf f sh
-  filling-end rows g = table-by [] rows (λ (d : ℕ). frameSums f sh (numberedOf d) petals) 16 (g .same) (g .filled)
+  filling-end rows g = table-by [] rows (λ (d : ℕ). frameSums f sh (numberedOf d) roseBins) 16 (g .same) (g .filled)
 
 -- ---- the ways out of `rose`
 
@@ -90,12 +90,12 @@ module _ (f scratch : List ℕ) (sh : Shape) {a : Answer} (e : a ≡ answer (ros
   number : a .number ≡ says .number
   number = ap (λ (a : Answer). a .number) e
 
-  pub rose-refused : (a .number ≡ 0 → ⊥) → Roses f sh scratch scratch darkRose
+  pub rose-refused : (a .number ≡ 0 → ⊥) → Roses f sh scratch scratch refusedRose
   rose-refused n =
       let refused : says .number ≡ 0 → ⊥ = λ z. n (number ∙ z) in
       record {
-        rows = sym (after-refused says (roseOf f sh) darkRose refused);
-        scratch-kept = sym (after-refused says scratch scratch refused);
+        rows = sym (after-refused says (roseOf f sh) refusedRose refused);
+        scratch-kept = λ _. refl;
         scratch-length = refl;
       }
 
@@ -104,8 +104,8 @@ module _ (f scratch : List ℕ) (sh : Shape) {a : Answer} (e : a ≡ answer (ros
   rose-done z rows scratch′ is kept =
       let done : says .number ≡ 0 = sym number ∙ z in
       record {
-        rows = is ∙ sym (after-done says (roseOf f sh) darkRose done);
-        scratch-kept = sym (after-done says scratch′ scratch done);
+        rows = is ∙ sym (after-done says (roseOf f sh) refusedRose done);
+        scratch-kept = λ refused. absurd (refused done);
         scratch-length = kept;
       }
 
