@@ -1,5 +1,5 @@
 -- What a reader may want to know of the definitions, and that one input allows one outcome of each call.
---   opened-dilated                  the opening is the dilation of the erosion (equation (3) of document 000)
+--   opened-dilated                  where a window fits, the opening is the dilation of the erosion (equation (3) of document 000)
 --   opened-below                    no pixel of an opening is brighter than its source
 --   opened-padded (Padding)         zeros before and behind a line do not change its opening
 --   erodes-once, dilates-once, opens-once    one input, one outcome, for each call
