@@ -17,7 +17,7 @@ use Rattle.answer.specs.Limits.{longest}
 use Rattle.answer.specs.Rules.{Rule, answer, by-number, done, refusal}
 use Rattle.answer.proofs.Rules.{numbered, kept, after-refused, outside-not}
 use Rattle.bright.specs.declared.Stretch.{Stretch}
-use Rattle.bright.specs.declared.Place.{Place}
+use Rattle.bright.specs.declared.Bookmark.{Bookmark}
 use Rattle.bright.specs.declared.Step.{Step}
 use Rattle.bright.specs.Stretches.{stretches}
 use Rattle.bright.specs.Generator.{Layout, coming, beginning, isReady, Follows}
@@ -26,7 +26,7 @@ use Rattle.bright.specs.Steps.{startOf, finished}
 use Rattle.bright.proofs.Steps.{coming-beginning, coming-none}
 
 -- ds is laid; t and o are the table and the scratch as they were lent, and a the answer
-pub record Laying (run : Layout) (f : List ℕ) (t : List Stretch) (o : List ℕ) (a : Answer) (ds : List Stretch) (m : List ℕ) (p : Place) : Type 0 where
+pub record Laying (run : Layout) (f : List ℕ) (t : List Stretch) (o : List ℕ) (a : Answer) (ds : List Stretch) (m : List ℕ) (p : Bookmark) : Type 0 where
   pub all : ds ++ coming run f m p ≡ by-number (a .number) (stretches f) []
   pub fits : length ds + length (coming run f m p) ≤ length t
   pub kept : length m ≡ length o
@@ -45,7 +45,7 @@ answer-finished (r ∷ rs) k n = go (r .broken) refl (answer-finished rs k (both
         (λ z. omega (arith, ltb-true 0 (r .number) (both-left (ltb 0 (r .number)) (numbered rs) n))))
     go false e ih = rw e ih
 
--- a place that counts more runs than pixels is no reading's
+-- a bookmark that counts more runs than pixels is no reading's
 lost : (n room : ℕ) → isReady n room (record { read = 0; depth = 1 }) ≡ false
 lost n room = go (leb n longest) (leb (4 * n) room) (leb 0 n)
   where
@@ -55,7 +55,7 @@ lost n room = go (leb n longest) (leb (4 * n) room) (leb 0 n)
     go true false u = refl
     go false t u = refl
 
-pub laying-start : (run : Layout) (f : List ℕ) (t : List Stretch) (o : List ℕ) (a : Answer) (p : Place) → a ≡ answer (listed f t o) 0 → p ≡ startOf a → Laying run f t o a [] o p
+pub laying-start : (run : Layout) (f : List ℕ) (t : List Stretch) (o : List ℕ) (a : Answer) (p : Bookmark) → a ≡ answer (listed f t o) 0 → p ≡ startOf a → Laying run f t o a [] o p
 laying-start run f t o a p e s = go (a .number) refl
   where
     go : (k : ℕ) → a .number ≡ k → Laying run f t o a [] o p
@@ -78,25 +78,25 @@ some-not-none ds s ss e = omega (arith, ap length e, length-append ds (s ∷ ss)
 refused-none : (a : Answer) (l : List Stretch) → (a .number ≡ 0 → ⊥) → by-number (a .number) l [] ≡ []
 refused-none a l ne = after-refused a l [] ne
 
-module _ (run : Layout) (f : List ℕ) (t : List Stretch) (o : List ℕ) (a : Answer) (ds : List Stretch) (m : List ℕ) (p : Place) (g : Laying run f t o a ds m p)
+module _ (run : Layout) (f : List ℕ) (t : List Stretch) (o : List ℕ) (a : Answer) (ds : List Stretch) (m : List ℕ) (p : Bookmark) (g : Laying run f t o a ds m p)
     (m′ : List ℕ) (r : Step) (h : Follows run f m p m′ r) where
   module _ (y : r .found ≡ true) where
-    first : coming run f m p ≡ r .stretch ∷ coming run f m′ (r .place)
+    first : coming run f m p ≡ r .stretch ∷ coming run f m′ (r .bookmark)
     first = h .comes y
 
     pub laying-room : length ds < length t
     laying-room = omega (arith, g .fits, ap length first)
 
-    pub laying-less : length (coming run f m′ (r .place)) < length (coming run f m p)
+    pub laying-less : length (coming run f m′ (r .bookmark)) < length (coming run f m p)
     laying-less = omega (arith, ap length first)
 
-    pub laying-step : Laying run f t o a (ds ++ (r .stretch ∷ [])) m′ (r .place)
+    pub laying-step : Laying run f t o a (ds ++ (r .stretch ∷ [])) m′ (r .bookmark)
     laying-step =
         record {
-          all = append-assoc ds (r .stretch ∷ []) (coming run f m′ (r .place)) ∙ (rw first at (g .all));
+          all = append-assoc ds (r .stretch ∷ []) (coming run f m′ (r .bookmark)) ∙ (rw first at (g .all));
           fits = omega (arith, g .fits, ap length first, length-append ds (r .stretch ∷ []));
           kept = h .kept ∙ g .kept;
-          refused = λ ne. absurd (some-not-none ds (r .stretch) (coming run f m′ (r .place)) ((rw first at (g .all)) ∙ refused-none a (stretches f) ne));
+          refused = λ ne. absurd (some-not-none ds (r .stretch) (coming run f m′ (r .bookmark)) ((rw first at (g .all)) ∙ refused-none a (stretches f) ne));
         }
 
   module _ (y : r .found ≡ false) where

@@ -1,5 +1,5 @@
--- What the parts of a step do to the stretches to come at a place.
---   ready-test, test-ready                  the test of a place, and its facts
+-- What the parts of a step do to the stretches to come at a bookmark.
+--   ready-test, test-ready                  the test of a bookmark, and its facts
 --   coming-beginning                        from the beginning on, every stretch is to come
 --   coming-none                             where a step finds none, none is to come
 --   begins-as, begins-end, begins-first     a run is open already, or the line is at its end, or the pixel opens one
@@ -21,7 +21,7 @@ use borrow.Author.Tests.{leb-true, ltb-true, ltb-false, le-leb, lt-ltb}
 use Rattle.lists.proofs.Cases.{both-left, both-right}
 use Rattle.answer.specs.Limits.{longest}
 use Rattle.bright.specs.declared.Stretch.{Stretch}
-use Rattle.bright.specs.declared.Place.{Place}
+use Rattle.bright.specs.declared.Bookmark.{Bookmark}
 use Rattle.bright.specs.declared.Step.{Step}
 use Rattle.bright.specs.Stretches.{stretches}
 use Rattle.bright.specs.Reading.{Run, topLevel, opened, ending, todo}
@@ -31,9 +31,9 @@ use Rattle.bright.proofs.Model.{todo-stretches}
 use Rattle.bright.proofs.Stack.{stack-top, stack-below}
 use Rattle.bright.proofs.Turn.{opened-more, opened-same, fallen-low, fallen-pop, turn-grow, turn-fall}
 
--- ---- the test of a place
+-- ---- the test of a bookmark
 
-pub ready-test : (f m : List ℕ) (p : Place) → Ready f m p → isReady (length f) (length m) p ≡ true
+pub ready-test : (f m : List ℕ) (p : Bookmark) → Ready f m p → isReady (length f) (length m) p ≡ true
 ready-test f m p r =
     rw (
       le-leb (length f) longest (r .pixels),
@@ -42,7 +42,7 @@ ready-test f m p r =
       le-leb (p .depth) (p .read) (r .depth),
     )
 
-pub test-ready : (f m : List ℕ) (p : Place) → isReady (length f) (length m) p ≡ true → Ready f m p
+pub test-ready : (f m : List ℕ) (p : Bookmark) → isReady (length f) (length m) p ≡ true → Ready f m p
 test-ready f m p e =
     let pixels = leb (length f) longest in
     let room = leb (4 * length f) (length m) in
@@ -66,11 +66,11 @@ module _ (run : Layout) where
 
   -- ---- the first run
 
-  to-come-end : (f m : List ℕ) (p : Place) → length f ≤ p .read → p .depth ≡ 0 → toCome run f m p ≡ []
+  to-come-end : (f m : List ℕ) (p : Bookmark) → length f ≤ p .read → p .depth ≡ 0 → toCome run f m p ≡ []
   unfolding todo ending stackOf
   to-come-end f m p h z = rw (z, drop-of-length-le f h)
 
-  module _ (f m : List ℕ) (p : Place) (r : Ready f m p) where
+  module _ (f m : List ℕ) (p : Bookmark) (r : Ready f m p) where
     pub begins-as : (p .depth ≡ 0 → ⊥) → Begins run f m p m p
     begins-as z = record { ready = r; same = refl; none = λ e. absurd (z e) }
 
@@ -91,19 +91,19 @@ module _ (run : Layout) where
 
   -- ---- the climb
 
-  -- from the place p with the scratch o the reading has come to `read`, and the topmost of `depth` runs is at `level`
-  pub record Climbing (f o : List ℕ) (p : Place) (m : List ℕ) (read depth level : ℕ) : Type 0 where
+  -- from the bookmark p with the scratch o the reading has come to `read`, and the topmost of `depth` runs is at `level`
+  pub record Climbing (f o : List ℕ) (p : Bookmark) (m : List ℕ) (read depth level : ℕ) : Type 0 where
     pub ready : Ready f m (record { read = read; depth = depth })
     pub some : 0 < depth
     pub top : level ≡ topLevel (stackOf run m depth)
     pub same : toCome run f o p ≡ toCome run f m (record { read = read; depth = depth })
     pub kept : length m ≡ length o
 
-  pub climbing-start : (f m : List ℕ) (p : Place) (top : ℕ) → Ready f m p → 0 < p .depth → top ≡ topLevel (stackOf run m (p .depth))
+  pub climbing-start : (f m : List ℕ) (p : Bookmark) (top : ℕ) → Ready f m p → 0 < p .depth → top ≡ topLevel (stackOf run m (p .depth))
       → Climbing f m p m (p .read) (p .depth) top
   climbing-start f m p top r s t = record { ready = r; some = s; top = t; same = refl; kept = refl }
 
-  module _ (f o : List ℕ) (p : Place) (m : List ℕ) (read depth top : ℕ) (g : Climbing f o p m read depth top) where
+  module _ (f o : List ℕ) (p : Bookmark) (m : List ℕ) (read depth top : ℕ) (g : Climbing f o p m read depth top) where
     pub climbing-stops : getD f read 0 < top → Climbs run f o p m (record { read = read; depth = depth })
     climbing-stops h = record { closes = record { ready = g .ready; some = g .some; stops = λ _. omega (arith, g .top) }; same = g .same }
 
@@ -159,7 +159,7 @@ module _ (run : Layout) where
 
   -- ---- the fall
 
-  module _ (f m : List ℕ) (p : Place) (start under : ℕ) (n : Ends run f m p start under) (h : p .read < length f) where
+  module _ (f m : List ℕ) (p : Bookmark) (start under : ℕ) (n : Ends run f m p start under) (h : p .read < length f) where
     abbrev c : Closes run f m p
     c = n .closes
 
@@ -208,7 +208,7 @@ module _ (run : Layout) where
 
   -- ---- the stretch found
 
-  module _ (f m : List ℕ) (p : Place) (start level under : ℕ) (n : Ends run f m p start under) (e : level ≡ topLevel (stackOf run m (p .depth))) where
+  module _ (f m : List ℕ) (p : Bookmark) (start level under : ℕ) (n : Ends run f m p start under) (e : level ≡ topLevel (stackOf run m (p .depth))) where
     abbrev closes : Closes run f m p
     closes = n .closes
 
@@ -219,7 +219,7 @@ module _ (run : Layout) where
 
     pub finds-end : p .read ≡ length f
         → Finds run f m p m
-        (record { found = true; stretch = record { start = start; end = p .read; level = level; base = under }; place = record { read = p .read; depth = p .depth - 1 } })
+        (record { found = true; stretch = record { start = start; end = p .read; level = level; base = under }; bookmark = record { read = p .read; depth = p .depth - 1 } })
     unfolding todo ending
     finds-end q =
         let h : length f ≤ p .read = omega arith in
@@ -230,8 +230,8 @@ module _ (run : Layout) where
           ready = record { pixels = r .pixels; room = r .room; read = r .read; depth = omega (arith, r .depth) };
         }
 
-    pub finds-fall : (m′ : List ℕ) (base : ℕ) (q : Place) → p .read < length f → base ≡ max (getD f (p .read) 0) under → Falls run f m p m′ q
-        → Finds run f m p m′ (record { found = true; stretch = record { start = start; end = p .read; level = level; base = base }; place = q })
+    pub finds-fall : (m′ : List ℕ) (base : ℕ) (q : Bookmark) → p .read < length f → base ≡ max (getD f (p .read) 0) under → Falls run f m p m′ q
+        → Finds run f m p m′ (record { found = true; stretch = record { start = start; end = p .read; level = level; base = base }; bookmark = q })
     finds-fall m′ base q h e-base g =
         let l : getD f (p .read) 0 < level = omega (arith, closes .stops h) in
         let fall = turn-fall (p .read) (getD f (p .read) 0) (drop (suc (p .read)) f) (record { start = start; level = level }) (stackOf run m (p .depth - 1)) l in
@@ -243,7 +243,7 @@ module _ (run : Layout) where
 
   -- ---- the ways out of a step
 
-  module _ (f m : List ℕ) (p : Place) where
+  module _ (f m : List ℕ) (p : Bookmark) where
     follows-nothing : (m′ : List ℕ) → coming run f m p ≡ [] → m′ ≡ m → Follows run f m p m′ (noStep p)
     follows-nothing m′ z s = record { found = rw z; comes = λ t. absurd (false≢true t); none = λ _. (refl, s); kept = ap length s }
 
@@ -253,11 +253,11 @@ module _ (run : Layout) where
     pub follows-none : (m′ : List ℕ) → Ready f m p → toCome run f m p ≡ [] → m′ ≡ m → Follows run f m p m′ (noStep p)
     follows-none m′ r z s = follows-nothing m′ (rw (ready-test f m p r, z)) s
 
-    pub follows-found : Ready f m p → (m₁ m′ : List ℕ) (q : Place) (r : Step) → toCome run f m p ≡ toCome run f m₁ q → Finds run f m₁ q m′ r → length m′ ≡ length m → Follows run f m p m′ r
+    pub follows-found : Ready f m p → (m₁ m′ : List ℕ) (q : Bookmark) (r : Step) → toCome run f m p ≡ toCome run f m₁ q → Finds run f m₁ q m′ r → length m′ ≡ length m → Follows run f m p m′ r
     follows-found ready m₁ m′ q r s g k =
-        let e : coming run f m p ≡ r .stretch ∷ coming run f m′ (r .place) = rw (ready-test f m p ready, ready-test f m′ (r .place) (g .ready)) (s ∙ g .comes) in
+        let e : coming run f m p ≡ r .stretch ∷ coming run f m′ (r .bookmark) = rw (ready-test f m p ready, ready-test f m′ (r .bookmark) (g .ready)) (s ∙ g .comes) in
         record {
-          found = g .found ∙ sym (rw e (lt-ltb 0 (length (r .stretch ∷ coming run f m′ (r .place))) (omega arith)));
+          found = g .found ∙ sym (rw e (lt-ltb 0 (length (r .stretch ∷ coming run f m′ (r .bookmark))) (omega arith)));
           comes = λ _. e;
           none = λ t. absurd (true≢false (sym (g .found) ∙ t));
           kept = k;

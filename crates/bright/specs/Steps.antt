@@ -6,7 +6,7 @@
 --   fallen v rs          the runs once the topmost is ended by a pixel v
 --   Falls                from the runs so fallen the rest comes
 --   Finds                the topmost run is the stretch found
---   startOf a            where the reading of a listing with the answer a starts: at a refusal at a place where none can stand
+--   startOf a            where the reading of a listing with the answer a starts: at a refusal at a bookmark where none can stand
 --   finished a k         the answer of a listing that has come to its end, with k stretches
 use mathlib.Core.Path.{_≡_}
 use mathlib.Core.Bool.{true, cond}
@@ -16,34 +16,34 @@ use lib.ListN.{length, getD, drop}
 use Rattle.answer.specs.declared.Answer.{Answer}
 use Rattle.answer.specs.Limits.{longest}
 use Rattle.answer.specs.Rules.{done, by-number}
-use Rattle.bright.specs.declared.Place.{Place}
+use Rattle.bright.specs.declared.Bookmark.{Bookmark}
 use Rattle.bright.specs.declared.Step.{Step}
 use Rattle.bright.specs.Reading.{Run, topLevel, topHolds, todo}
 use Rattle.bright.specs.Generator.{Layout, stackOf, toCome, beginning}
 
-pub record Ready (f m : List ℕ) (p : Place) : Type 0 where
+pub record Ready (f m : List ℕ) (p : Bookmark) : Type 0 where
   pub pixels : length f ≤ longest
   pub room : 4 * length f ≤ length m
   pub read : p .read ≤ length f
   pub depth : p .depth ≤ p .read
 
 -- a run is open afterwards, unless the line is at its end
-pub record Begins (run : Layout) (f m : List ℕ) (p : Place) (m′ : List ℕ) (q : Place) : Type 0 where
+pub record Begins (run : Layout) (f m : List ℕ) (p : Bookmark) (m′ : List ℕ) (q : Bookmark) : Type 0 where
   pub ready : Ready f m′ q
   pub same : toCome run f m p ≡ toCome run f m′ q
   pub none : q .depth ≡ 0 → (toCome run f m p ≡ []) × (m′ ≡ m)
 
-pub record Closes (run : Layout) (f m : List ℕ) (p : Place) : Type 0 where
+pub record Closes (run : Layout) (f m : List ℕ) (p : Bookmark) : Type 0 where
   pub ready : Ready f m p
   pub some : 0 < p .depth
   pub stops : p .read < length f → getD f (p .read) 0 < topLevel (stackOf run m (p .depth))
 
-pub record Ends (run : Layout) (f m : List ℕ) (p : Place) (start under : ℕ) : Type 0 where
+pub record Ends (run : Layout) (f m : List ℕ) (p : Bookmark) (start under : ℕ) : Type 0 where
   pub closes : Closes run f m p
   pub from : start ≡ run m (p .depth - 1) .start
   pub below : under ≡ topLevel (stackOf run m (p .depth - 1))
 
-pub record Climbs (run : Layout) (f m : List ℕ) (p : Place) (m′ : List ℕ) (q : Place) : Type 0 where
+pub record Climbs (run : Layout) (f m : List ℕ) (p : Bookmark) (m′ : List ℕ) (q : Bookmark) : Type 0 where
   pub closes : Closes run f m′ q
   pub same : toCome run f m p ≡ toCome run f m′ q
 
@@ -51,16 +51,16 @@ abbrev pub fallen : ℕ → List Run → List Run
 fallen v [] = []
 fallen v (r ∷ rs) = cond (topHolds v rs) rs (record { start = r .start; level = v } ∷ rs)
 
-pub record Falls (run : Layout) (f m : List ℕ) (p : Place) (m′ : List ℕ) (q : Place) : Type 0 where
+pub record Falls (run : Layout) (f m : List ℕ) (p : Bookmark) (m′ : List ℕ) (q : Bookmark) : Type 0 where
   pub ready : Ready f m′ q
   pub comes : todo (p .read) (drop (p .read) f) (fallen (getD f (p .read) 0) (stackOf run m (p .depth))) ≡ toCome run f m′ q
 
-pub record Finds (run : Layout) (f m : List ℕ) (p : Place) (m′ : List ℕ) (r : Step) : Type 0 where
+pub record Finds (run : Layout) (f m : List ℕ) (p : Bookmark) (m′ : List ℕ) (r : Step) : Type 0 where
   pub found : r .found ≡ true
-  pub comes : toCome run f m p ≡ r .stretch ∷ toCome run f m′ (r .place)
-  pub ready : Ready f m′ (r .place)
+  pub comes : toCome run f m p ≡ r .stretch ∷ toCome run f m′ (r .bookmark)
+  pub ready : Ready f m′ (r .bookmark)
 
-abbrev pub startOf : Answer → Place
+abbrev pub startOf : Answer → Bookmark
 startOf a = by-number (a .number) beginning (record { read = 0; depth = 1 })
 
 abbrev pub finished : Answer → ℕ → Answer

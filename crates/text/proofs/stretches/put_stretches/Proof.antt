@@ -17,11 +17,11 @@ use Rattle.text.proofs.stretches.put_stretches.Statement.{statement}
 use Rattle.text.proofs.stretches.put_stretches.Tie as tie
 
 abbrev Inv-loop : tie.InvT-loop
-Inv-loop dst₀ at line scratch₀ end₀ place₀ dst scratch end place =
-    (length scratch ≡ length scratch₀) × (length dst ≡ length dst₀) × Left dst₀ at (stretchesText (stretches line)) dst end (stretchesText (coming run8 line scratch place))
+Inv-loop dst₀ at line scratch₀ end₀ bookmark₀ dst scratch end bookmark =
+    (length scratch ≡ length scratch₀) × (length dst ≡ length dst₀) × Left dst₀ at (stretchesText (stretches line)) dst end (stretchesText (coming run8 line scratch bookmark))
 
 abbrev μ-loop : tie.MeasureT-loop
-μ-loop dst₀ at line scratch₀ end₀ place₀ dst scratch end place = length (coming run8 line scratch place)
+μ-loop dst₀ at line scratch₀ end₀ bookmark₀ dst scratch end bookmark = length (coming run8 line scratch bookmark)
 
 begin-requires : tie.Need-begin-requires Inv-loop μ-loop
 begin-requires c κs = search needs
@@ -46,7 +46,7 @@ returns c =
     let line = c .before .before .before .before .before .before .before .before .before .before .before .args .line .now in
     let at = c .before .before .before .before .before .before .loop in
     let next = c .before .before .before .before .next in
-    let none = coming-none run8 line (at .scratch) (at .place) _ (next .result) (next .ensures) (not-true _ (c .if1 .taken)) in
+    let none = coming-none run8 line (at .scratch) (at .bookmark) _ (next .result) (next .ensures) (not-true _ (c .if1 .taken)) in
     (left-end (rw (none, stretches-none) at (at .inv .2)) (puts-none (at .dst) (at .end)), next .ensures .kept ∙ at .inv .0)
 
 stretch-fields-requires : tie.Need-stretch-fields-requires Inv-loop μ-loop
