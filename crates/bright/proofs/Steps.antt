@@ -24,12 +24,12 @@ use Rattle.bright.specs.declared.Stretch.{Stretch}
 use Rattle.bright.specs.declared.Bookmark.{Bookmark}
 use Rattle.bright.specs.declared.Step.{Step}
 use Rattle.bright.specs.Stretches.{stretches}
-use Rattle.bright.specs.Reading.{Run, topLevel, opened, ending, todo}
+use Rattle.bright.specs.Reading.{Run, topLevel, climbed, ending, todo}
 use Rattle.bright.specs.Generator.{Layout, stackOf, toCome, coming, beginning, isReady, noStep, Follows}
 use Rattle.bright.specs.Steps.{Ready, Begins, Closes, Ends, Climbs, fallen, Falls, Finds}
 use Rattle.bright.proofs.Model.{todo-stretches}
 use Rattle.bright.proofs.Stack.{stack-top, stack-below}
-use Rattle.bright.proofs.Turn.{opened-more, opened-same, fallen-low, fallen-pop, turn-grow, turn-fall}
+use Rattle.bright.proofs.Turn.{climbed-more, climbed-same, fallen-low, fallen-pop, turn-grow, turn-fall}
 
 -- ---- the test of a bookmark
 
@@ -113,7 +113,7 @@ module _ (run : Layout) where
     module _ (h : read < length f) where
       -- a pixel of at least the topmost run's level ends none
       turn : topLevel (stackOf run m depth) ≤ getD f read 0
-          → toCome run f m (record { read = read; depth = depth }) ≡ todo (read + 1) (drop (read + 1) f) (opened read (getD f read 0) (stackOf run m depth))
+          → toCome run f m (record { read = read; depth = depth }) ≡ todo (read + 1) (drop (read + 1) f) (climbed read (getD f read 0) (stackOf run m depth))
       turn l =
           let s : read + 1 ≡ suc read = omega arith in
           rw (s, drop-cons f read 0 h) (turn-grow read (getD f read 0) (drop (suc read) f) (stackOf run m depth) l)
@@ -127,7 +127,7 @@ module _ (run : Layout) where
           one : depth + 1 ≡ suc depth
           one = omega arith
 
-          on : toCome run f o p ≡ todo (read + 1) (drop (read + 1) f) (opened read (getD f read 0) (stackOf run m depth))
+          on : toCome run f o p ≡ todo (read + 1) (drop (read + 1) f) (climbed read (getD f read 0) (stackOf run m depth))
           on = g .same ∙ turn (omega (arith, g .top))
 
           go : (t : Bool) → ltb top (getD f read 0) ≡ t → Climbing f o p m′ (read + 1) d (getD f read 0)
@@ -138,7 +138,7 @@ module _ (run : Layout) where
                 ready = record { pixels = g .ready .pixels; room = omega (arith, g .ready .room); read = omega arith; depth = omega (arith, g .ready .depth) };
                 some = omega arith;
                 top = rw (k, e);
-                same = on ∙ rw (opened-more read (getD f read 0) (stackOf run m depth) up, k, e);
+                same = on ∙ rw (climbed-more read (getD f read 0) (stackOf run m depth) up, k, e);
                 kept = same ∙ g .kept;
               }
           go false t =
@@ -147,8 +147,8 @@ module _ (run : Layout) where
               let below : stackOf run m′ depth ≡ stackOf run m depth = stack-below run m′ depth (record { start = read; level = getD f read 0 }) (stackOf run m depth) e in
               let s = stack-top run m depth (g .some) in
               let under : getD f read 0 ≤ run m (depth - 1) .level = omega (arith, g .top, ap topLevel s) in
-              let stays : opened read (getD f read 0) (stackOf run m depth) ≡ stackOf run m depth =
-              rw s (opened-same read (getD f read 0) (run m (depth - 1)) (stackOf run m (depth - 1)) under) in
+              let stays : climbed read (getD f read 0) (stackOf run m depth) ≡ stackOf run m depth =
+              rw s (climbed-same read (getD f read 0) (run m (depth - 1)) (stackOf run m (depth - 1)) under) in
               record {
                 ready = record { pixels = g .ready .pixels; room = omega (arith, g .ready .room); read = omega arith; depth = omega (arith, g .ready .depth) };
                 some = omega (arith, g .some);
@@ -182,7 +182,7 @@ module _ (run : Layout) where
         let ps : List ℕ = drop (suc (p .read)) f in
         let read : todo (p .read) (v ∷ ps) lowered ≡ todo (suc (p .read)) ps lowered =
         turn-grow (p .read) v ps lowered (le-refl v)
-        ∙ ap (todo (suc (p .read)) ps) (opened-same (p .read) v (record { start = start; level = v }) (stackOf run m last) (le-refl v)) in
+        ∙ ap (todo (suc (p .read)) ps) (climbed-same (p .read) v (record { start = start; level = v }) (stackOf run m last) (le-refl v)) in
         record {
           ready = record { pixels = c .ready .pixels; room = omega (arith, c .ready .room); read = omega arith; depth = omega (arith, c .ready .depth) };
           comes = rw (stack-top run m (p .depth) (c .some), fell, drop-cons f (p .read) 0 h, s, stack) read;

@@ -1,5 +1,5 @@
 -- What one pixel, and the line's end, do to the stretches to come: it ends no run, or it ends the topmost. Each holds of any runs at all.
---   opened-more, opened-same    a pixel opens a run, or none
+--   climbed-more, climbed-same  a pixel opens a run, or none
 --   fallen-low, fallen-pop      the topmost run, ended, goes on at the pixel's level, or is gone
 --   ended-none, low-top         no run on top is brighter
 --   turn-grow, turn-fall        a pixel that ends no run, and one that ends the topmost
@@ -11,15 +11,15 @@ use Prim.Native.Nat.{ℕ, suc, _≤_, _<_, max}
 use native.Mathlib.Nat.{le-refl}
 use native.Mathlib.Omega.{arith}
 use borrow.Author.Tests.{lt-ltb, le-ltb, le-leb, lt-leb, leb-false}
-use Rattle.bright.specs.Reading.{Run, topLevel, topHolds, closed, ended, settled, opened, todo}
+use Rattle.bright.specs.Reading.{Run, topLevel, topHolds, closed, ended, settled, climbed, todo}
 use Rattle.bright.specs.Steps.{fallen}
 
-pub opened-more : (b v : ℕ) (rs : List Run) → topLevel rs < v → opened b v rs ≡ record { start = b; level = v } ∷ rs
-opened-more b v [] h = refl
-opened-more b v (r ∷ rs) h = rw (lt-ltb (r .level) v h)
+pub climbed-more : (b v : ℕ) (rs : List Run) → topLevel rs < v → climbed b v rs ≡ record { start = b; level = v } ∷ rs
+climbed-more b v [] h = refl
+climbed-more b v (r ∷ rs) h = rw (lt-ltb (r .level) v h)
 
-pub opened-same : (b v : ℕ) (r : Run) (rs : List Run) → v ≤ r .level → opened b v (r ∷ rs) ≡ r ∷ rs
-opened-same b v r rs h = rw (le-ltb (r .level) v h)
+pub climbed-same : (b v : ℕ) (r : Run) (rs : List Run) → v ≤ r .level → climbed b v (r ∷ rs) ≡ r ∷ rs
+climbed-same b v r rs h = rw (le-ltb (r .level) v h)
 
 pub fallen-low : (v : ℕ) (r : Run) (rs : List Run) → topLevel rs < v → fallen v (r ∷ rs) ≡ record { start = r .start; level = v } ∷ rs
 fallen-low v r [] h = refl
@@ -38,7 +38,7 @@ unfolding settled
 settled-same v [] h = refl
 settled-same v (r ∷ rs) h = rw (le-ltb v (r .level) h)
 
-pub turn-grow : (b v : ℕ) (ps : List ℕ) (rs : List Run) → topLevel rs ≤ v → todo b (v ∷ ps) rs ≡ todo (suc b) ps (opened b v rs)
+pub turn-grow : (b v : ℕ) (ps : List ℕ) (rs : List Run) → topLevel rs ≤ v → todo b (v ∷ ps) rs ≡ todo (suc b) ps (climbed b v rs)
 unfolding todo
 turn-grow b v ps rs h = rw (ended-none b v rs h, settled-same v rs h)
 

@@ -8,7 +8,7 @@
 --   closed r b base      the stretch that the run r is where it ends at b, with this base
 --   ended b v rs         the stretches that a pixel v at b ends: the runs on top that are brighter
 --   settled v rs         the runs after those are gone
---   opened b v rs        the runs after a pixel v at b that no run on top is brighter than
+--   climbed b v rs       the runs after a pixel v at b that no run on top is brighter than
 --   ending b rs          the stretches that the line's end at b ends: every open run
 --   todo b ps rs         the stretches still to come at b, of the pixels ps from b on, with the runs rs open
 -- Laws: bright/proofs/Model (todo 0 f [] is the list of bright stretches), Turn, Counting.
@@ -51,8 +51,8 @@ settled v [] = []
 settled v (r ∷ rs) = cond (ltb v (r .level)) (cond (topHolds v rs) (settled v rs) (record { start = r .start; level = v } ∷ rs)) (r ∷ rs)
 
 -- a pixel that outshines every open run opens a new one
-abbrev pub opened : ℕ → ℕ → List Run → List Run
-opened b v rs = cond (topBelow v rs) (record { start = b; level = v } ∷ rs) rs
+abbrev pub climbed : ℕ → ℕ → List Run → List Run
+climbed b v rs = cond (topBelow v rs) (record { start = b; level = v } ∷ rs) rs
 
 unfoldable pub ending : ℕ → List Run → List Stretch
 ending b [] = []
@@ -60,4 +60,4 @@ ending b (r ∷ rs) = closed r b (topLevel rs) ∷ ending b rs
 
 unfoldable pub todo : ℕ → List ℕ → List Run → List Stretch
 todo b [] rs = ending b rs
-todo b (v ∷ ps) rs = ended b v rs ++ todo (suc b) ps (opened b v (settled v rs))
+todo b (v ∷ ps) rs = ended b v rs ++ todo (suc b) ps (climbed b v (settled v rs))
