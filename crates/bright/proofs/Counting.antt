@@ -1,8 +1,10 @@
 -- How many stretches a line has, from the levels of the open runs alone: `stretches-count`; and no more than it has pixels: `stretches-few`.
 --   kept v ls, pushed v ls      the levels that a pixel v leaves, and these with v on top
 --   tally ps ls                 how many stretches are still to come, of the pixels ps with the levels ls open
+--   tally-pop, -none, -push, -same    what one pixel does to that number
 --   levelsIn a d                the first d levels in an array, the last on top
---   Going                       where a count stands; going-start, -first, -pop, -push, -same, -end
+--   rising ls                   each level is at least as high as there are levels below it
+--   Going                       where a count stands; going-start, -first, -pop, -room, -push, -same, -end
 -- Assumes nothing.
 use mathlib.Core.Path.{_≡_, refl, sym, ap, _∙_}
 use mathlib.Core.Bool.{Bool, true, false, cond}

@@ -1,6 +1,6 @@
 -- What the loop of the listing keeps to: the stretches laid into the table and those to come are the list, or nothing where the call is refused.
 --   listed f t o          the rules of a listing of f into the table t with the scratch o
---   Laying                where the listing stands; laying-start, laying-step, laying-end
+--   Laying                where the listing stands; laying-start, -room, -less, -step, -end
 -- Assumes nothing.
 use mathlib.Core.Path.{_≡_, refl, sym, ap, _∙_}
 use mathlib.Core.Bool.{Bool, true, false, _&&_}
@@ -23,7 +23,7 @@ use Rattle.bright.specs.Stretches.{stretches}
 use Rattle.bright.specs.Generator.{Layout, coming, beginning, isReady, Follows}
 use Rattle.bright.specs.Listing.{listRules, ListsLine}
 use Rattle.bright.specs.Steps.{startOf, finished}
-use Rattle.bright.proofs.Steps.{coming-beginning, coming-none}
+use Rattle.bright.proofs.Steps.{coming-beginning, coming-next, coming-none}
 
 -- ds is laid; t and o are the table and the scratch as they were lent, and a the answer
 pub record Laying (run : Layout) (f : List ℕ) (t : List Stretch) (o : List ℕ) (a : Answer) (ds : List Stretch) (m : List ℕ) (p : Bookmark) : Type 0 where
@@ -45,7 +45,7 @@ answer-finished (r ∷ rs) k n = go (r .broken) refl (answer-finished rs k (both
         (λ z. omega (arith, ltb-true 0 (r .number) (both-left (ltb 0 (r .number)) (numbered rs) n))))
     go false e ih = rw e ih
 
--- a bookmark that counts more runs than pixels is no reading's
+-- no reading can stand at a bookmark that counts more runs than pixels
 lost : (n room : ℕ) → isReady n room (record { read = 0; depth = 1 }) ≡ false
 lost n room = go (leb n longest) (leb (4 * n) room) (leb 0 n)
   where
@@ -82,7 +82,7 @@ module _ (run : Layout) (f : List ℕ) (t : List Stretch) (o : List ℕ) (a : An
     (m′ : List ℕ) (r : Step) (h : Follows run f m p m′ r) where
   module _ (y : r .found ≡ true) where
     first : coming run f m p ≡ r .stretch ∷ coming run f m′ (r .bookmark)
-    first = h .comes y
+    first = coming-next h y
 
     pub laying-room : length ds < length t
     laying-room = omega (arith, g .fits, ap length first)
@@ -101,7 +101,7 @@ module _ (run : Layout) (f : List ℕ) (t : List Stretch) (o : List ℕ) (a : An
 
   module _ (y : r .found ≡ false) where
     all-laid : ds ≡ by-number (a .number) (stretches f) []
-    all-laid = sym (append-nil ds) ∙ (rw (coming-none run f m p m′ r h y) at (g .all))
+    all-laid = sym (append-nil ds) ∙ (rw (coming-none h y) at (g .all))
 
     pub laying-end : a ≡ answer (listed f t o) 0 → (b : Answer) → b ≡ finished a (length ds) → ListsLine f t (front ds t) o m′ b
     laying-end e b q = go (a .number) refl
@@ -126,6 +126,6 @@ module _ (run : Layout) (f : List ℕ) (t : List Stretch) (o : List ℕ) (a : An
             record {
               answers = w ∙ sym (rw z) ∙ answered;
               written = rw (w, d, z);
-              scratch-kept = rw (w, z) (h .none y .1 ∙ g .refused ne);
+              scratch-kept = rw (w, z) (h .none y ∙ g .refused ne);
               scratch-length = h .kept ∙ g .kept;
             }

@@ -1,4 +1,4 @@
--- One input allows one outcome of each call; of `next` its answer, and what comes from the bookmark and the scratch that it leaves.
+-- One input allows one outcome of each call; of `next` what it hands back, and what comes from there with the scratch that it leaves.
 --   lists-once, follows-once
 -- Assumes nothing.
 use mathlib.Core.Path.{_≡_, refl, sym, ap, _∙_}
@@ -14,6 +14,7 @@ use Rattle.bright.specs.declared.Step.{Step}
 use Rattle.bright.specs.Stretches.{stretches}
 use Rattle.bright.specs.Generator.{Layout, coming, Follows}
 use Rattle.bright.specs.Listing.{ListsLine}
+use Rattle.bright.proofs.Steps.{coming-next}
 
 pub lists-once : {f : List ℕ} {t t₁ t₂ : List Stretch} {m m₁ m₂ : List ℕ} {a₁ a₂ : Answer} → ListsLine f t t₁ m m₁ a₁ → ListsLine f t t₂ m m₂ a₂
     → (a₁ ≡ a₂) × (t₁ ≡ t₂)
@@ -22,20 +23,15 @@ lists-once {f} {t} {t₁} {t₂} {m} {m₁} {m₂} {a₁} {a₂} p q =
     (e, p .written ∙ ap (λ (a : Answer). after a (front (stretches f) t) t) e ∙ sym (q .written))
 
 pub follows-once : {run : Layout} {f m : List ℕ} {p : Bookmark} {m₁ m₂ : List ℕ} {r₁ r₂ : Step} → Follows run f m p m₁ r₁ → Follows run f m p m₂ r₂
-    → (r₁ .found ≡ r₂ .found) × (r₁ .stretch ≡ r₂ .stretch) × (coming run f m₁ (r₁ .bookmark) ≡ coming run f m₂ (r₂ .bookmark))
-follows-once {run} {f} {m} {p} {m₁} {m₂} {r₁} {r₂} g h = go (r₁ .found) refl
+    → (r₁ ≡ r₂) × (coming run f m₁ (r₁ .bookmark) ≡ coming run f m₂ (r₂ .bookmark))
+follows-once {run} {f} {m} {p} {m₁} {m₂} {r₁} {r₂} g h = (same, go (r₁ .found) refl)
   where
-    same : r₁ .found ≡ r₂ .found
-    same = g .found ∙ sym (h .found)
+    same : r₁ ≡ r₂
+    same = g .steps ∙ sym (h .steps)
 
-    go : (b : Bool) → r₁ .found ≡ b → (r₁ .found ≡ r₂ .found) × (r₁ .stretch ≡ r₂ .stretch) × (coming run f m₁ (r₁ .bookmark) ≡ coming run f m₂ (r₂ .bookmark))
+    go : (b : Bool) → r₁ .found ≡ b → coming run f m₁ (r₁ .bookmark) ≡ coming run f m₂ (r₂ .bookmark)
     go true y =
         let e : r₁ .stretch ∷ coming run f m₁ (r₁ .bookmark) ≡ r₂ .stretch ∷ coming run f m₂ (r₂ .bookmark) =
-        sym (g .comes y) ∙ h .comes (sym same ∙ y) in
-        let s : r₁ .stretch ≡ r₂ .stretch = cc in
-        let rest : coming run f m₁ (r₁ .bookmark) ≡ coming run f m₂ (r₂ .bookmark) = cc in
-        (same, s, rest)
-    go false y =
-        let u = g .none y in
-        let v = h .none (sym same ∙ y) in
-        (same, rw (u .0, v .0), rw (u .0, v .0, u .1, v .1))
+        sym (coming-next g y) ∙ coming-next h (rw same at y) in
+        cc
+    go false y = rw (g .none y, h .none (rw same at y), same)

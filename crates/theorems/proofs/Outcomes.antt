@@ -103,9 +103,9 @@ pub list-once : {f : List ℕ} {table table₁ table₂ : List Stretch} {t t₁ 
     → ListsLine f table table₂ t t₂ a₂ → (a₁ ≡ a₂) × (table₁ ≡ table₂)
 list-once = lists-once
 
--- the bookmark and the scratch that a step leaves are settled by what comes from there
+-- what a step hands back is settled, and so is what comes from there; the bytes of scratch are not
 pub next-once : {run : Layout} {f t : List ℕ} {p : Bookmark} {t₁ t₂ : List ℕ} {r₁ r₂ : Step} → Follows run f t p t₁ r₁ → Follows run f t p t₂ r₂
-    → (r₁ .found ≡ r₂ .found) × (r₁ .stretch ≡ r₂ .stretch) × (coming run f t₁ (r₁ .bookmark) ≡ coming run f t₂ (r₂ .bookmark))
+    → (r₁ ≡ r₂) × (coming run f t₁ (r₁ .bookmark) ≡ coming run f t₂ (r₂ .bookmark))
 next-once = follows-once
 
 -- ---- size sums
