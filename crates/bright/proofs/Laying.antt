@@ -116,7 +116,7 @@ module _ (run : Layout) (f : List ℕ) (t : List Stretch) (o : List ℕ) (a : An
             record {
               answers = q ∙ rw d answered;
               written = rw (w, d);
-              scratch-kept = rw w;
+              scratch-kept = λ refused. absurd (refused (rw w));
               scratch-length = h .kept ∙ g .kept;
             }
         go (suc k) z =
@@ -126,6 +126,6 @@ module _ (run : Layout) (f : List ℕ) (t : List Stretch) (o : List ℕ) (a : An
             record {
               answers = w ∙ sym (rw z) ∙ answered;
               written = rw (w, d, z);
-              scratch-kept = rw (w, z) (h .none y ∙ g .refused ne);
+              scratch-kept = λ _. h .none y ∙ g .refused ne;
               scratch-length = h .kept ∙ g .kept;
             }
