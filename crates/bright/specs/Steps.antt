@@ -5,7 +5,7 @@
 --   Ends                 .. and that run starts at start, and the one below it is at under
 --   Falls                the pixel at p has ended the topmost run: how many pixels are then read, and the runs then open
 --   Finds                the step from p stops there, and the topmost run is the stretch found
---   startOf a            where the reading of a listing with the answer a starts: at a refusal at a bookmark where none can stand
+--   startOf a            where the reading of a listing with the answer a starts; on refusal a bookmark at which no reading can stand, so that `next` finds nothing
 --   finished a k         the answer of a listing that has come to its end, with k stretches
 use mathlib.Core.Path.{_≡_}
 use mathlib.Core.Bool.{true, cond}

@@ -31,7 +31,7 @@ fn refusal(line: &[Pixel], room: usize, spare: usize) -> Answer
     a.needing(8, room, count(line))
 }
 
-// Where the reading of a listing starts: at a refusal nowhere, at a bookmark where none can stand.
+// Where the reading of a listing starts. On refusal that is a bookmark at which no reading can stand, so `next` finds nothing.
 fn start(a: Answer) -> Bookmark
     ensures { λ r. ⌜ r ≡ startOf a ⌝ }
 {
