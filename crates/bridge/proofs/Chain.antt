@@ -17,7 +17,7 @@ use Rattle.lists.specs.Tables.{keep}
 use Rattle.lists.specs.Extremes.{greatest}
 use Rattle.bright.specs.declared.Stretch.{Stretch}
 use Rattle.bright.specs.Stretches.{stretches}
-use Rattle.bright.specs.Reading.{Run, topLevel, topHolds, topBelow, closed, ended, settled, opened, ending, todo}
+use Rattle.bright.specs.Reading.{Run, topLevel, topHolds, topBelow, closed, ended, settled, climbed, ending, todo}
 use Rattle.bright.proofs.Model.{todo-stretches}
 use Rattle.bright.proofs.Turn.{ended-none, low-top}
 use Rattle.bridge.specs.Reach.{long, inStretch, reaching}
@@ -73,9 +73,9 @@ stack-settled b v (r ∷ rs) s =
     go true false e ih = (s .0, low-top v rs e, s .2)
     go false u e ih = s
 
-stack-opened : (b v : ℕ) (rs : List Run) → Stack b rs → Stack (suc b) (opened b v rs)
+stack-climbed : (b v : ℕ) (rs : List Run) → Stack b rs → Stack (suc b) (climbed b v rs)
 unfolding Stack
-stack-opened b v rs s = go (topBelow v rs) refl
+stack-climbed b v rs s = go (topBelow v rs) refl
   where
     go : (t : Bool) → topBelow v rs ≡ t → Stack (suc b) (cond t (record { start = b; level = v } ∷ rs) rs)
     go true t = (le-refl (suc b), low-below v rs t, stack-more b (suc b) rs (omega arith) s)
@@ -98,8 +98,8 @@ inner-top x a (r ∷ rs) h s =
     let e : leb (r .start) x ≡ true = le-leb (r .start) x (omega (arith, s .0)) in
     rw e (refl, omega (arith, s .0))
 
-inner-opened : (x b v : ℕ) (rs : List Run) → x < b → (innerLevel x (opened b v rs) ≡ innerLevel x rs) × (innerStart x (opened b v rs) ≡ innerStart x rs)
-inner-opened x b v rs h = go (topBelow v rs)
+inner-climbed : (x b v : ℕ) (rs : List Run) → x < b → (innerLevel x (climbed b v rs) ≡ innerLevel x rs) × (innerStart x (climbed b v rs) ≡ innerStart x rs)
+inner-climbed x b v rs h = go (topBelow v rs)
   where
     e : leb b x ≡ false
     e = lt-leb b x h
@@ -185,13 +185,13 @@ read-chain : (ps : List ℕ) (x b : ℕ) (rs : List Run) → x < b → Stack b r
 unfolding todo Before After
 read-chain [] x b rs h s = ending-chain x b h rs s
 read-chain (v ∷ ps) x b rs h s =
-    let t : Stack (suc b) (opened b v (settled v rs)) = stack-opened b v (settled v rs) (stack-settled b v rs s) in
-    let c = read-chain ps x (suc b) (opened b v (settled v rs)) (omega arith) t in
-    let i = inner-opened x b v (settled v rs) h in
-    rw (held-append x (ended b v rs) (todo (suc b) ps (opened b v (settled v rs))))
-    (ended-chain x b v h (holders x (todo (suc b) ps (opened b v (settled v rs)))) rs s
+    let t : Stack (suc b) (climbed b v (settled v rs)) = stack-climbed b v (settled v rs) (stack-settled b v rs s) in
+    let c = read-chain ps x (suc b) (climbed b v (settled v rs)) (omega arith) t in
+    let i = inner-climbed x b v (settled v rs) h in
+    rw (held-append x (ended b v rs) (todo (suc b) ps (climbed b v (settled v rs))))
+    (ended-chain x b v h (holders x (todo (suc b) ps (climbed b v (settled v rs)))) rs s
     (chain-wide (innerLevel x (settled v rs)) (innerStart x (settled v rs)) (suc b) (innerStart x (settled v rs)) b
-    (holders x (todo (suc b) ps (opened b v (settled v rs)))) (le-refl _) (omega arith) (rw (i .0, i .1) at c)))
+    (holders x (todo (suc b) ps (climbed b v (settled v rs)))) (le-refl _) (omega arith) (rw (i .0, i .1) at c)))
 
 -- ---- of a pixel that has not: what ends before it does not hold it
 
@@ -212,11 +212,11 @@ none-held x b v (r ∷ rs) h = go (ltb v (r .level)) (leb (r .start) x) (none-he
     go false o ih = refl
 
 -- the run on top after a pixel v is at its level
-new-top : (b v : ℕ) (rs : List Run) → Stack b rs → innerLevel b (opened b v (settled v rs)) ≡ v
+new-top : (b v : ℕ) (rs : List Run) → Stack b rs → innerLevel b (climbed b v (settled v rs)) ≡ v
 unfolding Stack
 new-top b v rs s = go (settled v rs) (settled-top v rs) (stack-settled b v rs s)
   where
-    go : (ss : List Run) → topLevel ss ≤ v → Stack b ss → innerLevel b (opened b v ss) ≡ v
+    go : (ss : List Run) → topLevel ss ≤ v → Stack b ss → innerLevel b (climbed b v ss) ≡ v
     go [] h s = rw (le-leb b b (le-refl b))
     go (r ∷ ss) h s = by-level (ltb (r .level) v) refl
       where
@@ -240,15 +240,15 @@ unfolding todo
 unread [] i x b rs e h s = absurd (omega arith)
 unread (v ∷ ps) zero x b rs e h s =
     let q : x ≡ b = omega arith in
-    let t : Stack (suc b) (opened b v (settled v rs)) = stack-opened b v (settled v rs) (stack-settled b v rs s) in
-    let c = read-chain ps b (suc b) (opened b v (settled v rs)) (le-refl (suc b)) t in
-    rw (q, held-append b (ended b v rs) (todo (suc b) ps (opened b v (settled v rs))), none-held b b v rs (le-refl b))
-    (chain-wide v (innerStart b (opened b v (settled v rs))) (suc b) b (suc b) (holders b (todo (suc b) ps (opened b v (settled v rs))))
-    (inner-start b (opened b v (settled v rs))) (le-refl (suc b)) (rw (new-top b v rs s) at c))
+    let t : Stack (suc b) (climbed b v (settled v rs)) = stack-climbed b v (settled v rs) (stack-settled b v rs s) in
+    let c = read-chain ps b (suc b) (climbed b v (settled v rs)) (le-refl (suc b)) t in
+    rw (q, held-append b (ended b v rs) (todo (suc b) ps (climbed b v (settled v rs))), none-held b b v rs (le-refl b))
+    (chain-wide v (innerStart b (climbed b v (settled v rs))) (suc b) b (suc b) (holders b (todo (suc b) ps (climbed b v (settled v rs))))
+    (inner-start b (climbed b v (settled v rs))) (le-refl (suc b)) (rw (new-top b v rs s) at c))
 unread (v ∷ ps) (suc i) x b rs e h s =
-    let t : Stack (suc b) (opened b v (settled v rs)) = stack-opened b v (settled v rs) (stack-settled b v rs s) in
-    rw (held-append x (ended b v rs) (todo (suc b) ps (opened b v (settled v rs))), none-held x b v rs (omega arith))
-    (unread ps i x (suc b) (opened b v (settled v rs)) (omega arith) (omega arith) t)
+    let t : Stack (suc b) (climbed b v (settled v rs)) = stack-climbed b v (settled v rs) (stack-settled b v rs s) in
+    rw (held-append x (ended b v rs) (todo (suc b) ps (climbed b v (settled v rs))), none-held x b v rs (omega arith))
+    (unread ps i x (suc b) (climbed b v (settled v rs)) (omega arith) (omega arith) t)
 
 -- the stretches that hold a pixel are a chain from the pixel's own level on
 pub holders-chain : (f : List ℕ) (x : ℕ) → x < length f → Chain (getD f x 0) x (suc x) (holders x (stretches f))

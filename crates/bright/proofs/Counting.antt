@@ -1,8 +1,10 @@
 -- How many stretches a line has, from the levels of the open runs alone: `stretches-count`; and no more than it has pixels: `stretches-few`.
 --   kept v ls, pushed v ls      the levels that a pixel v leaves, and these with v on top
 --   tally ps ls                 how many stretches are still to come, of the pixels ps with the levels ls open
+--   tally-pop, -none, -push, -same    what one pixel does to that number
 --   levelsIn a d                the first d levels in an array, the last on top
---   Going                       where a count stands; going-start, -first, -pop, -push, -same, -end
+--   rising ls                   each level is at least as high as there are levels below it
+--   Going                       where a count stands; going-start, -first, -pop, -room, -push, -same, -end
 -- Assumes nothing.
 use mathlib.Core.Path.{_≡_, refl, sym, ap, _∙_}
 use mathlib.Core.Bool.{Bool, true, false, cond}
@@ -15,7 +17,7 @@ use lib.ListN.{length, getD, set, drop, length-append, length-set, drop-of-lengt
 use lib.Seq.{drop-cons, getD-set-same, getD-set-other}
 use borrow.Author.Tests.{lt-ltb, le-ltb, leb-false}
 use Rattle.bright.specs.Stretches.{stretches}
-use Rattle.bright.specs.Reading.{Run, topLevel, topHolds, closed, ended, settled, opened, ending, todo}
+use Rattle.bright.specs.Reading.{Run, topLevel, topHolds, closed, ended, settled, climbed, ending, todo}
 use Rattle.bright.proofs.Model.{todo-stretches}
 
 abbrev levels : List Run → List ℕ
@@ -88,24 +90,24 @@ kept-low v (r ∷ rs) h =
     let k : r .level ≤ v = omega arith in
     simp (le-ltb v (r .level) k, lt-ltb (r .level) v q)
 
-levels-opened : (b v : ℕ) (rs : List Run) → levels (opened b v rs) ≡ pushed v (levels rs)
-levels-opened b v [] = refl
-levels-opened b v (r ∷ rs) = go (ltb (r .level) v)
+levels-climbed : (b v : ℕ) (rs : List Run) → levels (climbed b v rs) ≡ pushed v (levels rs)
+levels-climbed b v [] = refl
+levels-climbed b v (r ∷ rs) = go (ltb (r .level) v)
   where
     go : (t : Bool) → levels (cond t (record { start = b; level = v } ∷ (r ∷ rs)) (r ∷ rs)) ≡ cond t (v ∷ (r .level ∷ levels rs)) (r .level ∷ levels rs)
     go true = refl
     go false = refl
 
-levels-next : (b v : ℕ) (rs : List Run) → levels (opened b v (settled v rs)) ≡ pushed v (kept v (levels rs))
+levels-next : (b v : ℕ) (rs : List Run) → levels (climbed b v (settled v rs)) ≡ pushed v (kept v (levels rs))
 unfolding settled
 levels-next b v [] = refl
 levels-next b v (r ∷ rs) = go (ltb v (r .level)) refl (topHolds v rs) refl (levels-next b v rs)
   where
-    go : (t : Bool) → ltb v (r .level) ≡ t → (u : Bool) → topHolds v rs ≡ u → levels (opened b v (settled v rs)) ≡ pushed v (kept v (levels rs))
-        → levels (opened b v (settled v (r ∷ rs))) ≡ pushed v (kept v (levels (r ∷ rs)))
+    go : (t : Bool) → ltb v (r .level) ≡ t → (u : Bool) → topHolds v rs ≡ u → levels (climbed b v (settled v rs)) ≡ pushed v (kept v (levels rs))
+        → levels (climbed b v (settled v (r ∷ rs))) ≡ pushed v (kept v (levels (r ∷ rs)))
     go true e true u ih = simp (e, u) ih
     go true e false u ih = simp (e, u, le-ltb v v (le-refl v)) (sym (kept-low v rs u))
-    go false e u w ih = simp e (levels-opened b v (r ∷ rs))
+    go false e u w ih = simp e (levels-climbed b v (r ∷ rs))
 
 ending-length : (b : ℕ) (rs : List Run) → length (ending b rs) ≡ length (levels rs)
 unfolding ending
@@ -117,9 +119,9 @@ unfolding todo tally
 todo-length b [] rs = ending-length b rs
 todo-length b (v ∷ ps) rs =
     let e : length (ended b v rs) + length (kept v (levels rs)) ≡ length (levels rs) = ended-length b v rs in
-    let t : length (todo (suc b) ps (opened b v (settled v rs))) ≡ tally ps (pushed v (kept v (levels rs))) =
-    todo-length (suc b) ps (opened b v (settled v rs)) ∙ ap (tally ps) (levels-next b v rs) in
-    length-append (ended b v rs) (todo (suc b) ps (opened b v (settled v rs))) ∙ omega arith
+    let t : length (todo (suc b) ps (climbed b v (settled v rs))) ≡ tally ps (pushed v (kept v (levels rs))) =
+    todo-length (suc b) ps (climbed b v (settled v rs)) ∙ ap (tally ps) (levels-next b v rs) in
+    length-append (ended b v rs) (todo (suc b) ps (climbed b v (settled v rs))) ∙ omega arith
 
 -- the count of the bright stretches
 pub stretches-count : (f : List ℕ) → length (stretches f) ≡ tally f []

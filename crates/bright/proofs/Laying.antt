@@ -1,6 +1,6 @@
 -- What the loop of the listing keeps to: the stretches laid into the table and those to come are the list, or nothing where the call is refused.
 --   listed f t o          the rules of a listing of f into the table t with the scratch o
---   Laying                where the listing stands; laying-start, laying-step, laying-end
+--   Laying                where the listing stands; laying-start, -room, -less, -step, -end
 -- Assumes nothing.
 use mathlib.Core.Path.{_≡_, refl, sym, ap, _∙_}
 use mathlib.Core.Bool.{Bool, true, false, _&&_}
@@ -17,16 +17,16 @@ use Rattle.answer.specs.Limits.{longest}
 use Rattle.answer.specs.Rules.{Rule, answer, by-number, done, refusal}
 use Rattle.answer.proofs.Rules.{numbered, kept, after-refused, outside-not}
 use Rattle.bright.specs.declared.Stretch.{Stretch}
-use Rattle.bright.specs.declared.Place.{Place}
+use Rattle.bright.specs.declared.Bookmark.{Bookmark}
 use Rattle.bright.specs.declared.Step.{Step}
 use Rattle.bright.specs.Stretches.{stretches}
 use Rattle.bright.specs.Generator.{Layout, coming, beginning, isReady, Follows}
 use Rattle.bright.specs.Listing.{listRules, ListsLine}
 use Rattle.bright.specs.Steps.{startOf, finished}
-use Rattle.bright.proofs.Steps.{coming-beginning, coming-none}
+use Rattle.bright.proofs.Steps.{coming-beginning, coming-next, coming-none}
 
 -- ds is laid; t and o are the table and the scratch as they were lent, and a the answer
-pub record Laying (run : Layout) (f : List ℕ) (t : List Stretch) (o : List ℕ) (a : Answer) (ds : List Stretch) (m : List ℕ) (p : Place) : Type 0 where
+pub record Laying (run : Layout) (f : List ℕ) (t : List Stretch) (o : List ℕ) (a : Answer) (ds : List Stretch) (m : List ℕ) (p : Bookmark) : Type 0 where
   pub all : ds ++ coming run f m p ≡ by-number (a .number) (stretches f) []
   pub fits : length ds + length (coming run f m p) ≤ length t
   pub kept : length m ≡ length o
@@ -45,7 +45,7 @@ answer-finished (r ∷ rs) k n = go (r .broken) refl (answer-finished rs k (both
         (λ z. omega (arith, ltb-true 0 (r .number) (both-left (ltb 0 (r .number)) (numbered rs) n))))
     go false e ih = rw e ih
 
--- a place that counts more runs than pixels is no reading's
+-- no reading can stand at a bookmark that counts more runs than pixels
 lost : (n room : ℕ) → isReady n room (record { read = 0; depth = 1 }) ≡ false
 lost n room = go (leb n longest) (leb (4 * n) room) (leb 0 n)
   where
@@ -55,7 +55,7 @@ lost n room = go (leb n longest) (leb (4 * n) room) (leb 0 n)
     go true false u = refl
     go false t u = refl
 
-pub laying-start : (run : Layout) (f : List ℕ) (t : List Stretch) (o : List ℕ) (a : Answer) (p : Place) → a ≡ answer (listed f t o) 0 → p ≡ startOf a → Laying run f t o a [] o p
+pub laying-start : (run : Layout) (f : List ℕ) (t : List Stretch) (o : List ℕ) (a : Answer) (p : Bookmark) → a ≡ answer (listed f t o) 0 → p ≡ startOf a → Laying run f t o a [] o p
 laying-start run f t o a p e s = go (a .number) refl
   where
     go : (k : ℕ) → a .number ≡ k → Laying run f t o a [] o p
@@ -78,30 +78,30 @@ some-not-none ds s ss e = omega (arith, ap length e, length-append ds (s ∷ ss)
 refused-none : (a : Answer) (l : List Stretch) → (a .number ≡ 0 → ⊥) → by-number (a .number) l [] ≡ []
 refused-none a l ne = after-refused a l [] ne
 
-module _ (run : Layout) (f : List ℕ) (t : List Stretch) (o : List ℕ) (a : Answer) (ds : List Stretch) (m : List ℕ) (p : Place) (g : Laying run f t o a ds m p)
+module _ (run : Layout) (f : List ℕ) (t : List Stretch) (o : List ℕ) (a : Answer) (ds : List Stretch) (m : List ℕ) (p : Bookmark) (g : Laying run f t o a ds m p)
     (m′ : List ℕ) (r : Step) (h : Follows run f m p m′ r) where
   module _ (y : r .found ≡ true) where
-    first : coming run f m p ≡ r .stretch ∷ coming run f m′ (r .place)
-    first = h .comes y
+    first : coming run f m p ≡ r .stretch ∷ coming run f m′ (r .bookmark)
+    first = coming-next h y
 
     pub laying-room : length ds < length t
     laying-room = omega (arith, g .fits, ap length first)
 
-    pub laying-less : length (coming run f m′ (r .place)) < length (coming run f m p)
+    pub laying-less : length (coming run f m′ (r .bookmark)) < length (coming run f m p)
     laying-less = omega (arith, ap length first)
 
-    pub laying-step : Laying run f t o a (ds ++ (r .stretch ∷ [])) m′ (r .place)
+    pub laying-step : Laying run f t o a (ds ++ (r .stretch ∷ [])) m′ (r .bookmark)
     laying-step =
         record {
-          all = append-assoc ds (r .stretch ∷ []) (coming run f m′ (r .place)) ∙ (rw first at (g .all));
+          all = append-assoc ds (r .stretch ∷ []) (coming run f m′ (r .bookmark)) ∙ (rw first at (g .all));
           fits = omega (arith, g .fits, ap length first, length-append ds (r .stretch ∷ []));
           kept = h .kept ∙ g .kept;
-          refused = λ ne. absurd (some-not-none ds (r .stretch) (coming run f m′ (r .place)) ((rw first at (g .all)) ∙ refused-none a (stretches f) ne));
+          refused = λ ne. absurd (some-not-none ds (r .stretch) (coming run f m′ (r .bookmark)) ((rw first at (g .all)) ∙ refused-none a (stretches f) ne));
         }
 
   module _ (y : r .found ≡ false) where
     all-laid : ds ≡ by-number (a .number) (stretches f) []
-    all-laid = sym (append-nil ds) ∙ (rw (coming-none run f m p m′ r h y) at (g .all))
+    all-laid = sym (append-nil ds) ∙ (rw (coming-none h y) at (g .all))
 
     pub laying-end : a ≡ answer (listed f t o) 0 → (b : Answer) → b ≡ finished a (length ds) → ListsLine f t (front ds t) o m′ b
     laying-end e b q = go (a .number) refl
@@ -116,7 +116,7 @@ module _ (run : Layout) (f : List ℕ) (t : List Stretch) (o : List ℕ) (a : An
             record {
               answers = q ∙ rw d answered;
               written = rw (w, d);
-              scratch-kept = rw w;
+              scratch-kept = λ refused. absurd (refused (rw w));
               scratch-length = h .kept ∙ g .kept;
             }
         go (suc k) z =
@@ -126,6 +126,6 @@ module _ (run : Layout) (f : List ℕ) (t : List Stretch) (o : List ℕ) (a : An
             record {
               answers = w ∙ sym (rw z) ∙ answered;
               written = rw (w, d, z);
-              scratch-kept = rw (w, z) (h .none y .1 ∙ g .refused ne);
+              scratch-kept = λ _. h .none y ∙ g .refused ne;
               scratch-length = h .kept ∙ g .kept;
             }

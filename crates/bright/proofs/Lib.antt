@@ -1,9 +1,10 @@
 -- The laws of bright/specs.
 --   Levels      the level of a run, as it grows at either end
 --   Model       one reading with a stack gives the list of bright stretches
---   Turn        what one pixel does to the stretches to come
+--   Turn        what one pixel does to the open runs and the stretches to come
+--   Stops       where a step of the reading stops, and what comes from there
 --   Stack       the open runs in the scratch
---   Steps       the parts of a step of the generator
+--   Steps       the parts of a step of the generator, and what is to come after it
 --   Counting    how many stretches a line has, from the levels alone; no more than pixels
 --   Laying      what the loop of the listing keeps to
 --   Again       a slice that is lent again to a call and comes back; for the walk of the listing
@@ -11,10 +12,11 @@
 --   Order       it is in order, and holds each once
 --   Nest        a base is the level of the shortest other stretch that encloses
 --   Once        one input allows one outcome of each call
---   Examples    P7 to P10 and the program's example, computed from the definition
+--   Examples    P7 to P10 and the program's example, computed from the definition, and the steps over the latter
 pub mod Levels
 pub mod Model
 pub mod Turn
+pub mod Stops
 pub mod Stack
 pub mod Steps
 pub mod Counting

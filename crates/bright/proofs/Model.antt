@@ -21,7 +21,7 @@ use Rattle.lists.specs.Tables.{each, keep}
 use Rattle.lists.specs.Extremes.{greatest}
 use Rattle.bright.specs.declared.Stretch.{Stretch}
 use Rattle.bright.specs.Stretches.{before, behind, darker, levelOf, isStretch, baseOf, stretchOf, endingAt, stretches}
-use Rattle.bright.specs.Reading.{Run, topLevel, topHolds, topBelow, ended, settled, opened, ending, todo}
+use Rattle.bright.specs.Reading.{Run, topLevel, topHolds, topBelow, ended, settled, climbed, ending, todo}
 use Rattle.bright.proofs.Levels.{level-one, level-down, level-up, level-part}
 
 -- is the pixel before a darker than all from a to b - 1?
@@ -235,7 +235,7 @@ module _ (f : List ℕ) where
               le-ltb (min x v) v r ∙ sym t
 
   -- the open runs after the pixel at b
-  opens-next : (b : ℕ) → b < length f → opens f (suc b) (suc b) ≡ opened b (getD f b 0) (settled (getD f b 0) (opens f b b))
+  opens-next : (b : ℕ) → b < length f → opens f (suc b) (suc b) ≡ climbed b (getD f b 0) (settled (getD f b 0) (opens f b b))
   unfolding opens
   opens-next b n =
       rw (← settles b b (omega arith) n, level-one f b n, newly b n)

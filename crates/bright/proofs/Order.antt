@@ -1,7 +1,7 @@
 -- The list is in order and holds each stretch once: of two entries the later has the later end, or the same end and the earlier start.
---   Ordered ss             each entry comes after all before it
+--   Ordered ss             each entry is listed before all behind it
 --   stretches-ordered      the list is so
---   ordered-later          of two places of such a list the higher has the later entry; later-differs: so they differ
+--   ordered-before         of two entries of such a list the one of the lower index is listed before the other; before-differs: so they differ
 -- Assumes nothing.
 use mathlib.Core.Path.{_≡_, refl, sym, ap}
 use mathlib.Core.Bool.{Bool, true, false}
@@ -15,16 +15,16 @@ use Rattle.lists.specs.Tables.{each, keep}
 use Rattle.lists.specs.Members.{All}
 use Rattle.lists.proofs.Members.{all-map, all-append, all-at}
 use Rattle.bright.specs.declared.Stretch.{Stretch}
-use Rattle.bright.specs.Stretches.{isStretch, stretchOf, endingAt, stretches, Later}
+use Rattle.bright.specs.Stretches.{isStretch, stretchOf, endingAt, stretches, ListedBefore}
 
 unfoldable pub Ordered : List Stretch → Type 0
 Ordered [] = Unit {0}
-Ordered (s ∷ ss) = All (Later s) ss × Ordered ss
+Ordered (s ∷ ss) = All (ListedBefore s) ss × Ordered ss
 
-ordered-append : (xs ys : List Stretch) → Ordered xs → Ordered ys → All (λ (s : Stretch). All (Later s) ys) xs → Ordered (xs ++ ys)
+ordered-append : (xs ys : List Stretch) → Ordered xs → Ordered ys → All (λ (s : Stretch). All (ListedBefore s) ys) xs → Ordered (xs ++ ys)
 unfolding Ordered All
 ordered-append [] ys p q a = q
-ordered-append (x ∷ xs) ys p q a = (all-append (Later x) xs ys (p .0) (a .0), ordered-append xs ys (p .1) q (a .1))
+ordered-append (x ∷ xs) ys p q a = (all-append (ListedBefore x) xs ys (p .0) (a .0), ordered-append xs ys (p .1) q (a .1))
 
 module _ (f : List ℕ) where
   abbrev Here : ℕ → ℕ → Stretch → Type 0
@@ -48,7 +48,7 @@ module _ (f : List ℕ) where
   at-ordered (suc a) b = go (isStretch f a b) (at-ordered a b)
     where
       go : (t : Bool) → Ordered (endingAt f b a) → Ordered (keep t (stretchOf f a b) ++ endingAt f b a)
-      go true ih = (all-map (Here b a) (Later (stretchOf f a b)) (endingAt f b a) (λ s h. inr (sym (h .0), h .1)) (at-here a b), ih)
+      go true ih = (all-map (Here b a) (ListedBefore (stretchOf f a b)) (endingAt f b a) (λ s h. inr (sym (h .0), h .1)) (at-here a b), ih)
       go false ih = ih
 
   each-early : (n : ℕ) → All (λ (s : Stretch). s .end ≤ n) (each Ending n)
@@ -64,21 +64,21 @@ module _ (f : List ℕ) where
   each-ordered zero = tt
   each-ordered (suc n) =
       ordered-append (each Ending n) (Ending n) (each-ordered n) (at-ordered (suc n) (suc n))
-      (all-map (λ (s : Stretch). s .end ≤ n) (λ (s : Stretch). All (Later s) (Ending n)) (each Ending n)
-      (λ s h. all-map (Here (suc n) (suc n)) (Later s) (Ending n) (λ t k. inl (omega (arith, k .0))) (at-here (suc n) (suc n)))
+      (all-map (λ (s : Stretch). s .end ≤ n) (λ (s : Stretch). All (ListedBefore s) (Ending n)) (each Ending n)
+      (λ s h. all-map (Here (suc n) (suc n)) (ListedBefore s) (Ending n) (λ t k. inl (omega (arith, k .0))) (at-here (suc n) (suc n)))
       (each-early n))
 
   pub stretches-ordered : Ordered (stretches f)
   unfolding stretches
   stretches-ordered = each-ordered (length f)
 
-pub ordered-later : (d : Stretch) (ss : List Stretch) (i j : ℕ) → Ordered ss → i < j → j < length ss → Later (getD ss i d) (getD ss j d)
+pub ordered-before : (d : Stretch) (ss : List Stretch) (i j : ℕ) → Ordered ss → i < j → j < length ss → ListedBefore (getD ss i d) (getD ss j d)
 unfolding Ordered
-ordered-later d [] i j o h k = absurd (omega arith)
-ordered-later d (s ∷ ss) i zero o h k = absurd (omega arith)
-ordered-later d (s ∷ ss) zero (suc j) o h k = all-at (Later s) d ss j (o .0) (omega arith)
-ordered-later d (s ∷ ss) (suc i) (suc j) o h k = ordered-later d ss i j (o .1) (omega arith) (omega arith)
+ordered-before d [] i j o h k = absurd (omega arith)
+ordered-before d (s ∷ ss) i zero o h k = absurd (omega arith)
+ordered-before d (s ∷ ss) zero (suc j) o h k = all-at (ListedBefore s) d ss j (o .0) (omega arith)
+ordered-before d (s ∷ ss) (suc i) (suc j) o h k = ordered-before d ss i j (o .1) (omega arith) (omega arith)
 
-pub later-differs : (s t : Stretch) → Later s t → s ≡ t → ⊥
-later-differs s t (inl h) e = omega (arith, ap (λ (u : Stretch). u .end) e)
-later-differs s t (inr h) e = omega (arith, h .1, ap (λ (u : Stretch). u .start) e)
+pub before-differs : (s t : Stretch) → ListedBefore s t → s ≡ t → ⊥
+before-differs s t (inl h) e = omega (arith, ap (λ (u : Stretch). u .end) e)
+before-differs s t (inr h) e = omega (arith, h .1, ap (λ (u : Stretch). u .start) e)

@@ -1,8 +1,9 @@
 -- The open runs in the scratch: what a store does to them.
 --   stack-put8                the run that is stored as number i is on top of the i before it, pixels having eight bits
+--   stack-length              how many runs it holds, whatever the layout
 --   stack-top, stack-below    the run on top, and the runs below it, whatever the layout
 -- Assumes nothing.
-use mathlib.Core.Path.{_≡_, refl}
+use mathlib.Core.Path.{_≡_, refl, ap}
 use mathlib.Core.List.{List, _∷_}
 use Prim.Native.Nat.{ℕ, zero, suc, _+_, _-_, _*_, _/_, _%_, _≤_, _<_}
 use native.Mathlib.Omega.{arith}
@@ -60,6 +61,11 @@ stack-put8 m i s l h =
       stack-set i _ (4 * i + 1) (s / 256) (omega arith),
       stack-set i _ (4 * i) (s % 256) (omega arith),
     )
+
+pub stack-length : (run : Layout) (m : List ℕ) (d : ℕ) → length (stackOf run m d) ≡ d
+unfolding stackOf
+stack-length run m zero = refl
+stack-length run m (suc d) = ap suc (stack-length run m d)
 
 -- the run on top
 pub stack-top : (run : Layout) (m : List ℕ) (d : ℕ) → 0 < d → stackOf run m d ≡ run m (d - 1) ∷ stackOf run m (d - 1)

@@ -1,6 +1,7 @@
--- What the parts of a step do to the stretches to come at a place.
---   ready-test, test-ready                  the test of a place, and its facts
+-- What the parts of a step do, and what is to come after it.
+--   ready-test, test-ready                  the test of a bookmark, and its facts
 --   coming-beginning                        from the beginning on, every stretch is to come
+--   coming-next                             the stretch that a step finds is the first to come, and the others come from the bookmark that it hands back
 --   coming-none                             where a step finds none, none is to come
 --   begins-as, begins-end, begins-first     a run is open already, or the line is at its end, or the pixel opens one
 --   Climbing                                where a climb stands; climbing-start, -more, -stops, -end
@@ -13,27 +14,28 @@ use mathlib.Core.Bool.{Bool, true, false, cond, _&&_, true≢false, false≢true
 use mathlib.Core.List.{List, [], _∷_}
 use Prim.Native.Nat.{ℕ, suc, _+_, _-_, _*_, _≤_, _<_, max}
 use native.Mathlib.Nat.{le-refl}
+use native.Mathlib.Numerals.{add-one}
 use native.Mathlib.Omega.{arith}
 use lib.Dec.{ltb, leb}
-use lib.ListN.{length, getD, drop, drop-of-length-le}
+use lib.ListN.{length, getD, drop, length-drop, drop-of-length-le}
 use lib.Seq.{drop-cons}
 use borrow.Author.Tests.{leb-true, ltb-true, ltb-false, le-leb, lt-ltb}
 use Rattle.lists.proofs.Cases.{both-left, both-right}
 use Rattle.answer.specs.Limits.{longest}
-use Rattle.bright.specs.declared.Stretch.{Stretch}
-use Rattle.bright.specs.declared.Place.{Place}
+use Rattle.bright.specs.declared.Bookmark.{Bookmark}
 use Rattle.bright.specs.declared.Step.{Step}
 use Rattle.bright.specs.Stretches.{stretches}
-use Rattle.bright.specs.Reading.{Run, topLevel, opened, ending, todo}
-use Rattle.bright.specs.Generator.{Layout, stackOf, toCome, coming, beginning, isReady, noStep, Follows}
-use Rattle.bright.specs.Steps.{Ready, Begins, Closes, Ends, Climbs, fallen, Falls, Finds}
+use Rattle.bright.specs.Reading.{Run, topLevel, topHolds, climbed, Stop, stepFrom}
+use Rattle.bright.specs.Generator.{Layout, stackOf, isReady, beginning, coming, stopAt, stepOf, noStep, Follows}
+use Rattle.bright.specs.Steps.{Ready, Begins, Closes, Ends, Climbs, Falls, Finds}
 use Rattle.bright.proofs.Model.{todo-stretches}
-use Rattle.bright.proofs.Stack.{stack-top, stack-below}
-use Rattle.bright.proofs.Turn.{opened-more, opened-same, fallen-low, fallen-pop, turn-grow, turn-fall}
+use Rattle.bright.proofs.Stack.{stack-top, stack-below, stack-length}
+use Rattle.bright.proofs.Turn.{climbed-more, climbed-same, holds-not}
+use Rattle.bright.proofs.Stops.{stop-grow, fromStop, stop-comes, stop-inside}
 
--- ---- the test of a place
+-- ---- the test of a bookmark
 
-pub ready-test : (f m : List ℕ) (p : Place) → Ready f m p → isReady (length f) (length m) p ≡ true
+pub ready-test : (f m : List ℕ) (p : Bookmark) → Ready f m p → isReady (length f) (length m) p ≡ true
 ready-test f m p r =
     rw (
       le-leb (length f) longest (r .pixels),
@@ -42,7 +44,7 @@ ready-test f m p r =
       le-leb (p .depth) (p .read) (r .depth),
     )
 
-pub test-ready : (f m : List ℕ) (p : Place) → isReady (length f) (length m) p ≡ true → Ready f m p
+pub test-ready : (f m : List ℕ) (p : Bookmark) → isReady (length f) (length m) p ≡ true → Ready f m p
 test-ready f m p e =
     let pixels = leb (length f) longest in
     let room = leb (4 * length f) (length m) in
@@ -66,16 +68,12 @@ module _ (run : Layout) where
 
   -- ---- the first run
 
-  to-come-end : (f m : List ℕ) (p : Place) → length f ≤ p .read → p .depth ≡ 0 → toCome run f m p ≡ []
-  unfolding todo ending stackOf
-  to-come-end f m p h z = rw (z, drop-of-length-le f h)
-
-  module _ (f m : List ℕ) (p : Place) (r : Ready f m p) where
+  module _ (f m : List ℕ) (p : Bookmark) (r : Ready f m p) where
     pub begins-as : (p .depth ≡ 0 → ⊥) → Begins run f m p m p
     begins-as z = record { ready = r; same = refl; none = λ e. absurd (z e) }
 
     pub begins-end : p .depth ≡ 0 → p .read ≡ length f → Begins run f m p m p
-    begins-end z e = record { ready = r; same = refl; none = λ _. (to-come-end f m p (omega arith) z, refl) }
+    begins-end z e = record { ready = r; same = refl; none = λ _. (z, e, refl) }
 
     pub begins-first : (m′ : List ℕ) (v : ℕ) → p .depth ≡ 0 → (p .read ≡ length f → ⊥) → v ≡ getD f (p .read) 0 → length m′ ≡ length m
         → stackOf run m′ 1 ≡ record { start = p .read; level = v } ∷ stackOf run m 0 → Begins run f m p m′ (record { read = p .read + 1; depth = 1 })
@@ -85,25 +83,25 @@ module _ (run : Layout) where
         let h : p .read < length f = omega (arith, r .read) in
         record {
           ready = record { pixels = r .pixels; room = omega (arith, r .room); read = omega arith; depth = omega arith };
-          same = rw (z, s, drop-cons f (p .read) 0 h, ← p-v, e) (turn-grow (p .read) v (drop (suc (p .read)) f) [] (omega arith));
+          same = rw (z, s, drop-cons f (p .read) 0 h, ← p-v, e) (stop-grow (p .read) v (drop (suc (p .read)) f) [] (omega arith));
           none = λ q. absurd (omega arith);
         }
 
   -- ---- the climb
 
-  -- from the place p with the scratch o the reading has come to `read`, and the topmost of `depth` runs is at `level`
-  pub record Climbing (f o : List ℕ) (p : Place) (m : List ℕ) (read depth level : ℕ) : Type 0 where
+  -- from the bookmark p with the scratch o the reading has come to `read`, and the topmost of `depth` runs is at `level`
+  pub record Climbing (f o : List ℕ) (p : Bookmark) (m : List ℕ) (read depth level : ℕ) : Type 0 where
     pub ready : Ready f m (record { read = read; depth = depth })
     pub some : 0 < depth
     pub top : level ≡ topLevel (stackOf run m depth)
-    pub same : toCome run f o p ≡ toCome run f m (record { read = read; depth = depth })
+    pub same : stopAt run f o p ≡ stopAt run f m (record { read = read; depth = depth })
     pub kept : length m ≡ length o
 
-  pub climbing-start : (f m : List ℕ) (p : Place) (top : ℕ) → Ready f m p → 0 < p .depth → top ≡ topLevel (stackOf run m (p .depth))
+  pub climbing-start : (f m : List ℕ) (p : Bookmark) (top : ℕ) → Ready f m p → 0 < p .depth → top ≡ topLevel (stackOf run m (p .depth))
       → Climbing f m p m (p .read) (p .depth) top
   climbing-start f m p top r s t = record { ready = r; some = s; top = t; same = refl; kept = refl }
 
-  module _ (f o : List ℕ) (p : Place) (m : List ℕ) (read depth top : ℕ) (g : Climbing f o p m read depth top) where
+  module _ (f o : List ℕ) (p : Bookmark) (m : List ℕ) (read depth top : ℕ) (g : Climbing f o p m read depth top) where
     pub climbing-stops : getD f read 0 < top → Climbs run f o p m (record { read = read; depth = depth })
     climbing-stops h = record { closes = record { ready = g .ready; some = g .some; stops = λ _. omega (arith, g .top) }; same = g .same }
 
@@ -113,10 +111,10 @@ module _ (run : Layout) where
     module _ (h : read < length f) where
       -- a pixel of at least the topmost run's level ends none
       turn : topLevel (stackOf run m depth) ≤ getD f read 0
-          → toCome run f m (record { read = read; depth = depth }) ≡ todo (read + 1) (drop (read + 1) f) (opened read (getD f read 0) (stackOf run m depth))
+          → stopAt run f m (record { read = read; depth = depth }) ≡ stepFrom (read + 1) (drop (read + 1) f) (climbed read (getD f read 0) (stackOf run m depth))
       turn l =
           let s : read + 1 ≡ suc read = omega arith in
-          rw (s, drop-cons f read 0 h) (turn-grow read (getD f read 0) (drop (suc read) f) (stackOf run m depth) l)
+          rw (s, drop-cons f read 0 h) (stop-grow read (getD f read 0) (drop (suc read) f) (stackOf run m depth) l)
 
       -- the run that the pixel would open is stored above the others, and counted where it is brighter
       pub climbing-more : top ≤ getD f read 0 → (m′ : List ℕ) (d : ℕ) → length m′ ≡ length m
@@ -127,7 +125,7 @@ module _ (run : Layout) where
           one : depth + 1 ≡ suc depth
           one = omega arith
 
-          on : toCome run f o p ≡ todo (read + 1) (drop (read + 1) f) (opened read (getD f read 0) (stackOf run m depth))
+          on : stopAt run f o p ≡ stepFrom (read + 1) (drop (read + 1) f) (climbed read (getD f read 0) (stackOf run m depth))
           on = g .same ∙ turn (omega (arith, g .top))
 
           go : (t : Bool) → ltb top (getD f read 0) ≡ t → Climbing f o p m′ (read + 1) d (getD f read 0)
@@ -138,7 +136,7 @@ module _ (run : Layout) where
                 ready = record { pixels = g .ready .pixels; room = omega (arith, g .ready .room); read = omega arith; depth = omega (arith, g .ready .depth) };
                 some = omega arith;
                 top = rw (k, e);
-                same = on ∙ rw (opened-more read (getD f read 0) (stackOf run m depth) up, k, e);
+                same = on ∙ rw (climbed-more read (getD f read 0) (stackOf run m depth) up, k, e);
                 kept = same ∙ g .kept;
               }
           go false t =
@@ -147,8 +145,8 @@ module _ (run : Layout) where
               let below : stackOf run m′ depth ≡ stackOf run m depth = stack-below run m′ depth (record { start = read; level = getD f read 0 }) (stackOf run m depth) e in
               let s = stack-top run m depth (g .some) in
               let under : getD f read 0 ≤ run m (depth - 1) .level = omega (arith, g .top, ap topLevel s) in
-              let stays : opened read (getD f read 0) (stackOf run m depth) ≡ stackOf run m depth =
-              rw s (opened-same read (getD f read 0) (run m (depth - 1)) (stackOf run m (depth - 1)) under) in
+              let stays : climbed read (getD f read 0) (stackOf run m depth) ≡ stackOf run m depth =
+              rw s (climbed-same read (getD f read 0) (run m (depth - 1)) (stackOf run m (depth - 1)) under) in
               record {
                 ready = record { pixels = g .ready .pixels; room = omega (arith, g .ready .room); read = omega arith; depth = omega (arith, g .ready .depth) };
                 some = omega (arith, g .some);
@@ -159,10 +157,7 @@ module _ (run : Layout) where
 
   -- ---- the fall
 
-  module _ (f m : List ℕ) (p : Place) (start under : ℕ) (n : Ends run f m p start under) (h : p .read < length f) where
-    abbrev c : Closes run f m p
-    c = n .closes
-
+  module _ (f m : List ℕ) (p : Bookmark) (start under : ℕ) (n : Ends run f m p start under) where
     abbrev v : ℕ
     v = getD f (p .read) 0
 
@@ -173,42 +168,27 @@ module _ (run : Layout) where
     lowered = record { start = start; level = v } ∷ stackOf run m last
 
     -- the run goes on at the pixel's level, so that the pixel is read
-    falls-put : (m′ : List ℕ) → length m′ ≡ length m → fallen v (run m last ∷ stackOf run m last) ≡ lowered → stackOf run m′ (suc last) ≡ lowered
-        → Falls run f m p m′ (record { read = p .read + 1; depth = p .depth })
-    falls-put m′ same fell e =
-        let d : suc last ≡ p .depth = omega (arith, c .some) in
-        let s : p .read + 1 ≡ suc (p .read) = omega arith in
-        let stack : stackOf run m′ (p .depth) ≡ lowered = rw d at e in
-        let ps : List ℕ = drop (suc (p .read)) f in
-        let read : todo (p .read) (v ∷ ps) lowered ≡ todo (suc (p .read)) ps lowered =
-        turn-grow (p .read) v ps lowered (le-refl v)
-        ∙ ap (todo (suc (p .read)) ps) (opened-same (p .read) v (record { start = start; level = v }) (stackOf run m last) (le-refl v)) in
-        record {
-          ready = record { pixels = c .ready .pixels; room = omega (arith, c .ready .room); read = omega arith; depth = omega (arith, c .ready .depth) };
-          comes = rw (stack-top run m (p .depth) (c .some), fell, drop-cons f (p .read) 0 h, s, stack) read;
-        }
+    falls-put : (m′ : List ℕ) → topHolds v (stackOf run m last) ≡ false → stackOf run m′ (suc last) ≡ lowered → Falls run f m p m′ (record { read = p .read + 1; depth = p .depth })
+    falls-put m′ low e =
+        let d : suc last ≡ p .depth = omega (arith, n .closes .some) in
+        record { reads = rw (low, add-one); leaves = rw (low, ← n .from) (rw d at e) }
 
-    pub falls-first : (m′ : List ℕ) → length m′ ≡ length m → last ≡ 0 → stackOf run m′ (suc last) ≡ lowered → Falls run f m p m′ (record { read = p .read + 1; depth = p .depth })
+    pub falls-first : (m′ : List ℕ) → last ≡ 0 → stackOf run m′ (suc last) ≡ lowered → Falls run f m p m′ (record { read = p .read + 1; depth = p .depth })
     unfolding stackOf
-    falls-first m′ same z e = falls-put m′ same (rw (n .from, z)) e
+    falls-first m′ z e = falls-put m′ (rw z) e
 
-    pub falls-low : (m′ : List ℕ) → length m′ ≡ length m → under < v → stackOf run m′ (suc last) ≡ lowered → Falls run f m p m′ (record { read = p .read + 1; depth = p .depth })
-    falls-low m′ same l e = falls-put m′ same (fallen-low v (run m last) (stackOf run m last) (omega (arith, n .below)) ∙ rw (n .from)) e
+    pub falls-low : (m′ : List ℕ) → under < v → stackOf run m′ (suc last) ≡ lowered → Falls run f m p m′ (record { read = p .read + 1; depth = p .depth })
+    falls-low m′ l e = falls-put m′ (holds-not v (stackOf run m last) (omega (arith, n .below))) e
 
     pub falls-pop : (last ≡ 0 → ⊥) → v ≤ under → Falls run f m p m (record { read = p .read; depth = last })
     falls-pop z l =
         let t = stack-top run m last (omega arith) in
-        let k : v ≤ run m (last - 1) .level = omega (arith, n .below, ap topLevel t) in
-        let fell : fallen v (run m last ∷ stackOf run m last) ≡ stackOf run m last =
-        rw t (fallen-pop v (run m last) (run m (last - 1)) (stackOf run m (last - 1)) k) in
-        record {
-          ready = record { pixels = c .ready .pixels; room = c .ready .room; read = c .ready .read; depth = omega (arith, c .ready .depth) };
-          comes = rw (stack-top run m (p .depth) (c .some), fell);
-        }
+        let held : topHolds v (stackOf run m last) ≡ true = rw t (le-leb v (run m (last - 1) .level) (omega (arith, n .below, ap topLevel t))) in
+        record { reads = rw held; leaves = rw held }
 
   -- ---- the stretch found
 
-  module _ (f m : List ℕ) (p : Place) (start level under : ℕ) (n : Ends run f m p start under) (e : level ≡ topLevel (stackOf run m (p .depth))) where
+  module _ (f m : List ℕ) (p : Bookmark) (start level under : ℕ) (n : Ends run f m p start under) (e : level ≡ topLevel (stackOf run m (p .depth))) where
     abbrev closes : Closes run f m p
     closes = n .closes
 
@@ -219,53 +199,88 @@ module _ (run : Layout) where
 
     pub finds-end : p .read ≡ length f
         → Finds run f m p m
-        (record { found = true; stretch = record { start = start; end = p .read; level = level; base = under }; place = record { read = p .read; depth = p .depth - 1 } })
-    unfolding todo ending
+        (record { found = true; stretch = record { start = start; end = p .read; level = level; base = under }; bookmark = record { read = p .read; depth = p .depth - 1 } })
+    unfolding stepFrom
     finds-end q =
         let h : length f ≤ p .read = omega arith in
-        let r = closes .ready in
-        record {
-          found = refl;
-          comes = rw (drop-of-length-le f h, top-run, n .below);
-          ready = record { pixels = r .pixels; room = r .room; read = r .read; depth = omega (arith, r .depth) };
-        }
+        record { found = refl; stop = rw (drop-of-length-le f h, top-run, n .below) }
 
-    pub finds-fall : (m′ : List ℕ) (base : ℕ) (q : Place) → p .read < length f → base ≡ max (getD f (p .read) 0) under → Falls run f m p m′ q
-        → Finds run f m p m′ (record { found = true; stretch = record { start = start; end = p .read; level = level; base = base }; place = q })
+    pub finds-fall : (m′ : List ℕ) (base : ℕ) (q : Bookmark) → p .read < length f → base ≡ max (getD f (p .read) 0) under → Falls run f m p m′ q
+        → Finds run f m p m′ (record { found = true; stretch = record { start = start; end = p .read; level = level; base = base }; bookmark = q })
+    unfolding stepFrom
     finds-fall m′ base q h e-base g =
         let l : getD f (p .read) 0 < level = omega (arith, closes .stops h) in
-        let fall = turn-fall (p .read) (getD f (p .read) 0) (drop (suc (p .read)) f) (record { start = start; level = level }) (stackOf run m (p .depth - 1)) l in
         record {
           found = refl;
-          comes = rw (e-base, n .below, ← g .comes, top-run, drop-cons f (p .read) 0 h) fall;
-          ready = g .ready;
+          stop = rw (e-base, n .below, g .reads, g .leaves, ← n .from, top-run, drop-cons f (p .read) 0 h, lt-ltb (getD f (p .read) 0) level l);
         }
 
   -- ---- the ways out of a step
 
-  module _ (f m : List ℕ) (p : Place) where
-    follows-nothing : (m′ : List ℕ) → coming run f m p ≡ [] → m′ ≡ m → Follows run f m p m′ (noStep p)
-    follows-nothing m′ z s = record { found = rw z; comes = λ t. absurd (false≢true t); none = λ _. (refl, s); kept = ap length s }
-
+  module _ (f m : List ℕ) (p : Bookmark) where
     pub follows-lost : isReady (length f) (length m) p ≡ false → Follows run f m p m (noStep p)
-    follows-lost e = follows-nothing m (rw e) refl
+    follows-lost e = record { steps = rw e; leaves = λ t. absurd (false≢true t); none = λ _. refl; kept = refl }
 
-    pub follows-none : (m′ : List ℕ) → Ready f m p → toCome run f m p ≡ [] → m′ ≡ m → Follows run f m p m′ (noStep p)
-    follows-none m′ r z s = follows-nothing m′ (rw (ready-test f m p r, z)) s
-
-    pub follows-found : Ready f m p → (m₁ m′ : List ℕ) (q : Place) (r : Step) → toCome run f m p ≡ toCome run f m₁ q → Finds run f m₁ q m′ r → length m′ ≡ length m → Follows run f m p m′ r
-    follows-found ready m₁ m′ q r s g k =
-        let e : coming run f m p ≡ r .stretch ∷ coming run f m′ (r .place) = rw (ready-test f m p ready, ready-test f m′ (r .place) (g .ready)) (s ∙ g .comes) in
+    pub follows-none : (m′ : List ℕ) → Ready f m p → p .depth ≡ 0 → p .read ≡ length f → m′ ≡ m → Follows run f m p m′ (noStep p)
+    unfolding stackOf stepFrom
+    follows-none m′ r z e s =
+        let h : length f ≤ p .read = omega arith in
         record {
-          found = g .found ∙ sym (rw e (lt-ltb 0 (length (r .stretch ∷ coming run f m′ (r .place))) (omega arith)));
-          comes = λ _. e;
+          steps = rw (ready-test f m p r, drop-of-length-le f h, z);
+          leaves = λ t. absurd (false≢true t);
+          none = λ _. s;
+          kept = ap length s;
+        }
+
+    pub follows-found : Ready f m p → (m₁ m′ : List ℕ) (q : Bookmark) (r : Step) → stopAt run f m p ≡ stopAt run f m₁ q → Finds run f m₁ q m′ r → length m′ ≡ length m → Follows run f m p m′ r
+    follows-found ready m₁ m′ q r s g k =
+        let e = s ∙ g .stop in
+        record {
+          steps = rw (ready-test f m p ready, e, stack-length run m′ (r .bookmark .depth), ← g .found);
+          leaves = λ _. rw e;
           none = λ t. absurd (true≢false (sym (g .found) ∙ t));
           kept = k;
         }
 
-    pub coming-none : (m′ : List ℕ) (r : Step) → Follows run f m p m′ r → r .found ≡ false → coming run f m p ≡ []
-    coming-none m′ r h y = go (coming run f m p) (sym (h .found) ∙ y)
-      where
-        go : (l : List Stretch) → ltb 0 (length l) ≡ false → l ≡ []
-        go [] e = refl
-        go (s ∷ ss) e = absurd (omega (arith, ltb-false 0 (length (s ∷ ss)) e))
+-- ---- what is to come after a step
+
+module _ {run : Layout} {f m : List ℕ} {p : Bookmark} {m′ : List ℕ} {r : Step} (g : Follows run f m p m′ r) where
+  abbrev s : Stop
+  s = stopAt run f m p
+
+  -- where a reading can stand at p
+  module _ (e : isReady (length f) (length m) p ≡ true) where
+    handed : r ≡ stepOf s
+    handed = g .steps ∙ rw e
+
+    comes : coming run f m p ≡ fromStop f s
+    comes = rw e (stop-comes f (p .read) (drop (p .read) f) (stackOf run m (p .depth)) refl)
+
+    -- it can stand where the step leaves it, too
+    still : Ready f m′ (stepOf s .bookmark)
+    still =
+        let ready = test-ready f m p e in
+        let line : p .read + length (drop (p .read) f) ≤ length f = omega (arith, length-drop (p .read) f, ready .read) in
+        let few : length (stackOf run m (p .depth)) ≤ p .read = omega (arith, stack-length run m (p .depth), ready .depth) in
+        let inside = stop-inside (length f) (p .read) (drop (p .read) f) (stackOf run m (p .depth)) line few in
+        record { pixels = ready .pixels; room = omega (arith, g .kept, ready .room); read = inside .0; depth = inside .1 }
+
+  pub coming-next : r .found ≡ true → coming run f m p ≡ r .stretch ∷ coming run f m′ (r .bookmark)
+  coming-next y = go (isReady (length f) (length m) p) refl
+    where
+      go : (t : Bool) → isReady (length f) (length m) p ≡ t → coming run f m p ≡ r .stretch ∷ coming run f m′ (r .bookmark)
+      go true e =
+          let found : s .found ≡ true = rw (handed e) at y in
+          comes e ∙ rw (found, g .leaves y, handed e, ready-test f m′ (stepOf s .bookmark) (still e))
+      go false e =
+          let lost : r .found ≡ false = rw (g .steps, e) in
+          absurd (false≢true (sym lost ∙ y))
+
+  pub coming-none : r .found ≡ false → coming run f m p ≡ []
+  coming-none y = go (isReady (length f) (length m) p) refl
+    where
+      go : (t : Bool) → isReady (length f) (length m) p ≡ t → coming run f m p ≡ []
+      go true e =
+          let found : s .found ≡ false = rw (handed e) at y in
+          comes e ∙ rw found
+      go false e = rw e

@@ -1,7 +1,7 @@
 -- What the contracts of `stretch` cite, on lists of numbers: no width of a pixel is known here.
 --   Stretches    what a bright stretch of a line is, and the list of them
---   Reading      how one reading of the line makes the list: the model of the code
---   Generator    the step of that reading, with its open runs in the lent scratch
+--   Reading      how one reading of the line makes the list, and one step of it: the model of the code
+--   Generator    the calls `begin` and `next`: that step, with its open runs in the lent scratch
 --   Listing      the call `list`: its rules, and what it leaves
 --   Steps        what the parts of a step and of a listing keep to
 pub mod Stretches

@@ -1,4 +1,7 @@
 -- The call `list`: which rules it checks, and what it leaves.
+--   listRules n spare room entries    rules 1, 7 and 8, in the table's order
+--   ListsLine                         what `list` hands back and leaves
+-- Laws: bright/proofs/Once (lists-once: one input allows one answer and one table).
 use mathlib.Core.Path.{_≡_}
 use mathlib.Core.List.{List, [], _∷_}
 use Prim.Native.Nat.{ℕ, _*_}
@@ -20,9 +23,9 @@ listRules n spare room entries =
     ∷ []
 
 -- 'A done listing hands back the count of stretches'; 'Entries past the list do not change.'
--- What scratch holds after a done call is left open, its length apart.
+-- A refused call keeps scratch. What scratch holds after a done call is left open, its length apart.
 pub record ListsLine (f : List ℕ) (table table′ : List Stretch) (scratch scratch′ : List ℕ) (a : Answer) : Type 0 where
   pub answers : a ≡ answer (listRules (length f) (length scratch) (length table) (length (stretches f))) (length (stretches f))
   pub written : table′ ≡ after a (front (stretches f) table) table
-  pub scratch-kept : scratch′ ≡ after a scratch′ scratch
+  pub scratch-kept : (a .number ≡ 0 → ⊥) → scratch′ ≡ scratch
   pub scratch-length : length scratch′ ≡ length scratch

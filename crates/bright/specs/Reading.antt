@@ -8,10 +8,15 @@
 --   closed r b base      the stretch that the run r is where it ends at b, with this base
 --   ended b v rs         the stretches that a pixel v at b ends: the runs on top that are brighter
 --   settled v rs         the runs after those are gone
---   opened b v rs        the runs after a pixel v at b that no run on top is brighter than
+--   climbed b v rs       the runs after a pixel v at b that no run on top is brighter than
 --   ending b rs          the stretches that the line's end at b ends: every open run
 --   todo b ps rs         the stretches still to come at b, of the pixels ps from b on, with the runs rs open
--- Laws: bright/proofs/Model (todo 0 f [] is the list of bright stretches), Turn, Counting.
+--   Stop                 where a step stops: whether a run has ended, the stretch that it is, how many pixels are then read, and the runs then open
+--   noStretch            what stands for a stretch where none is found
+--   fallen v r rs        the runs once r, on top of rs, is ended by a pixel v
+--   stepFrom b ps rs     one step from b on, with the pixels ps ahead and the runs rs open: on to where a run ends
+-- Laws: bright/proofs/Model (todo-stretches: todo 0 f [] is the list of bright stretches), Stops (stop-comes: the stretch of a step is the first to come, and the others come
+-- from where it stops), Turn (what one pixel does to the open runs).
 use mathlib.Core.Bool.{Bool, true, false, cond}
 use mathlib.Core.List.{List, [], _∷_, _++_}
 use Prim.Native.Nat.{ℕ, suc, max}
@@ -51,8 +56,8 @@ settled v [] = []
 settled v (r ∷ rs) = cond (ltb v (r .level)) (cond (topHolds v rs) (settled v rs) (record { start = r .start; level = v } ∷ rs)) (r ∷ rs)
 
 -- a pixel that outshines every open run opens a new one
-abbrev pub opened : ℕ → ℕ → List Run → List Run
-opened b v rs = cond (topBelow v rs) (record { start = b; level = v } ∷ rs) rs
+abbrev pub climbed : ℕ → ℕ → List Run → List Run
+climbed b v rs = cond (topBelow v rs) (record { start = b; level = v } ∷ rs) rs
 
 unfoldable pub ending : ℕ → List Run → List Stretch
 ending b [] = []
@@ -60,4 +65,27 @@ ending b (r ∷ rs) = closed r b (topLevel rs) ∷ ending b rs
 
 unfoldable pub todo : ℕ → List ℕ → List Run → List Stretch
 todo b [] rs = ending b rs
-todo b (v ∷ ps) rs = ended b v rs ++ todo (suc b) ps (opened b v (settled v rs))
+todo b (v ∷ ps) rs = ended b v rs ++ todo (suc b) ps (climbed b v (settled v rs))
+
+pub record Stop : Type 0 where
+  pub found : Bool
+  pub stretch : Stretch
+  pub read : ℕ
+  pub runs : List Run
+
+abbrev pub noStretch : Stretch
+noStretch = record { start = 0; end = 0; level = 0; base = 0 }
+
+-- the run goes on from its start at level v, unless the one below holds v
+abbrev pub fallen : ℕ → Run → List Run → List Run
+fallen v r rs = cond (topHolds v rs) rs (record { start = r .start; level = v } ∷ rs)
+
+-- a pixel that ends a run is read with it, unless the run below holds the pixel, which may end that one too
+unfoldable pub stepFrom : ℕ → List ℕ → List Run → Stop
+stepFrom b [] [] = record { found = false; stretch = noStretch; read = b; runs = [] }
+stepFrom b [] (r ∷ rs) = record { found = true; stretch = closed r b (topLevel rs); read = b; runs = rs }
+stepFrom b (v ∷ ps) [] = stepFrom (suc b) ps (climbed b v [])
+stepFrom b (v ∷ ps) (r ∷ rs) =
+    cond (ltb v (r .level))
+    (record { found = true; stretch = closed r b (max v (topLevel rs)); read = cond (topHolds v rs) b (suc b); runs = fallen v r rs })
+    (stepFrom (suc b) ps (climbed b v (r ∷ rs)))

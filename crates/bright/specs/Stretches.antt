@@ -10,8 +10,9 @@
 --   endingAt f b a       the stretches that end at b and start before a, the latest start first
 --   stretches f          the list of bright stretches
 --   Bright f a b         the pixels a to b − 1 are a stretch, as facts
---   Later s t            t comes after s in the list
--- Laws: bright/proofs/Levels, Model, Listed, Order, Nest.
+--   ListedBefore s t     s comes before t in the list
+-- Laws: bright/proofs/Levels (the level of a run as it grows), Model (todo-stretches: one reading makes the list), Listed (the list holds every stretch, and nothing else),
+-- Order (it is in order, and holds each once), Nest (a base is the level of the shortest other stretch that encloses), Counting (no more stretches than pixels).
 use mathlib.Core.Path.{_≡_}
 use mathlib.Core.Bool.{Bool, true, _&&_}
 use mathlib.Core.Logic.{_⊎_}
@@ -67,5 +68,5 @@ pub record Bright (f : List ℕ) (a b : ℕ) : Type 0 where
   pub left : (j : ℕ) → a ≡ suc j → getD f j 0 < levelOf f a b
   pub right : b < length f → getD f b 0 < levelOf f a b
 
-abbrev pub Later : Stretch → Stretch → Type 0
-Later s t = (s .end < t .end) ⊎ ((s .end ≡ t .end) × (t .start < s .start))
+abbrev pub ListedBefore : Stretch → Stretch → Type 0
+ListedBefore s t = (s .end < t .end) ⊎ ((s .end ≡ t .end) × (t .start < s .start))

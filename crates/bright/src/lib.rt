@@ -11,14 +11,14 @@ pub struct Stretch {
 }
 
 // Where a reading of a line stands: how many pixels are read, and how many runs are open in the scratch.
-pub struct Place {
+pub struct Bookmark {
     pub read: usize,
     pub depth: usize,
 }
 
-// What a reading finds next, and the place to go on from; `found` is false where there is none.
+// What a reading finds next, and the bookmark to go on from; `found` is false where there is none.
 pub struct Step {
     pub found: bool,
     pub stretch: Stretch,
-    pub place: Place,
+    pub bookmark: Bookmark,
 }

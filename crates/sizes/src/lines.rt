@@ -51,7 +51,7 @@ pub(crate) fn add_line(line: &[Pixel], sums: &mut [u64], scratch: &mut [u8])
             return;
         }
         add_light(sums, step.stretch);
-        at = step.place;
+        at = step.bookmark;
     }
 }
 

@@ -1,6 +1,6 @@
 // The bright stretches one after the other, in one reading of the line. Each step reads on until a run ends: the pixels that end none cost one comparison each.
+use crate::Bookmark;
 use crate::Pixel;
-use crate::Place;
 use crate::Step;
 use crate::Stretch;
 use crate::runs::brighter;
@@ -19,14 +19,14 @@ ghost use Rattle.bright.specs.Generator.{beginning, isReady, noStep, run8, Foll
 ghost use Rattle.bright.specs.Steps.{Ready, Begins, Climbs, Closes, Ends, Falls, Finds};
 
 // Where a reading begins.
-pub fn begin() -> Place
+pub fn begin() -> Bookmark
     ensures { λ r. ⌜ r ≡ beginning ⌝ }
 {
-    Place { read: 0, depth: 0 }
+    Bookmark { read: 0, depth: 0 }
 }
 
-// Whether a reading of n pixels can stand at a place, with `room` bytes of scratch.
-fn is_ready(n: usize, room: usize, at: Place) -> bool
+// Whether a reading of n pixels can stand at a bookmark, with `room` bytes of scratch.
+fn is_ready(n: usize, room: usize, at: Bookmark) -> bool
     ensures { λ r. ⌜ r ≡ isReady n room at ⌝ }
 {
     if LONGEST < n {
@@ -42,7 +42,7 @@ fn is_ready(n: usize, room: usize, at: Place) -> bool
 }
 
 // Where no run is open, the next pixel opens one, whatever its level.
-fn open_first(line: &[Pixel], scratch: &mut [u8], at: Place) -> Place
+fn open_first(line: &[Pixel], scratch: &mut [u8], at: Bookmark) -> Bookmark
     requires { ⌜ Ready (now line) (now scratch) at ⌝ }
     ensures { λ r. ⌜ Begins run8 (now (line .entry)) (now (scratch .entry)) at (now (scratch .exit)) r ⌝ }
 {
@@ -54,7 +54,7 @@ fn open_first(line: &[Pixel], scratch: &mut [u8], at: Place) -> Place
         return at;
     }
     put(scratch, 0, read as u16, line[read]);
-    Place {
+    Bookmark {
         read: read + 1,
         depth: 1,
     }
@@ -70,7 +70,7 @@ fn grown(depth: usize, top: Pixel, v: Pixel) -> usize
 
 // Reads on over the pixels that end no run: one that outshines the topmost opens another. Each is stored above the stack, whether it opens a run or not:
 // a store costs less than a branch that is guessed wrong.
-fn climb(line: &[Pixel], scratch: &mut [u8], at: Place) -> Place
+fn climb(line: &[Pixel], scratch: &mut [u8], at: Bookmark) -> Bookmark
     requires { ⌜ Ready (now line) (now scratch) at × (0 < at .depth) ⌝ }
     ensures { λ r. ⌜ Climbs run8 (now (line .entry)) (now (scratch .entry)) at (now (scratch .exit)) r ⌝ }
 {
@@ -80,19 +80,19 @@ fn climb(line: &[Pixel], scratch: &mut [u8], at: Place) -> Place
     while read < line.len() {
         let v = line[read];
         if v < top {
-            return Place { read, depth };
+            return Bookmark { read, depth };
         }
         put(scratch, depth, read as u16, v);
         depth = grown(depth, top, v);
         top = v;
         read += 1;
     }
-    Place { read, depth }
+    Bookmark { read, depth }
 }
 
 // The pixel at hand, darker than the topmost run, ends it. The run goes on from its start at the pixel's level, and the pixel is read; or, where the run below, at `under`,
 // holds the pixel, it is gone.
-fn fall(line: &[Pixel], scratch: &mut [u8], at: Place, start: u16, under: Pixel) -> Place
+fn fall(line: &[Pixel], scratch: &mut [u8], at: Bookmark, start: u16, under: Pixel) -> Bookmark
     requires { ⌜ Ends run8 (now line) (now scratch) at start under × (at .read < length (now line)) ⌝ }
     ensures { λ r. ⌜ Falls run8 (now (line .entry)) (now (scratch .entry)) at (now (scratch .exit)) r ⌝ }
 {
@@ -102,16 +102,16 @@ fn fall(line: &[Pixel], scratch: &mut [u8], at: Place, start: u16, under: Pixel)
     let last = depth - 1;
     if last != 0 {
         if v <= under {
-            return Place { read, depth: last };
+            return Bookmark { read, depth: last };
         }
     }
     put(scratch, last, start, v);
     let next = read + 1;
-    Place { read: next, depth }
+    Bookmark { read: next, depth }
 }
 
 // The topmost run ends here: the pixel at hand is darker, or the line is at its end.
-fn close(line: &[Pixel], scratch: &mut [u8], at: Place) -> Step
+fn close(line: &[Pixel], scratch: &mut [u8], at: Bookmark) -> Step
     requires { ⌜ Closes run8 (now line) (now scratch) at ⌝ }
     ensures { λ r. ⌜ Finds run8 (now (line .entry)) (now (scratch .entry)) at (now (scratch .exit)) r ⌝ }
 {
@@ -131,11 +131,11 @@ fn close(line: &[Pixel], scratch: &mut [u8], at: Place) -> Step
                 level,
                 base: wide(under),
             },
-            place: Place { read, depth: last },
+            bookmark: Bookmark { read, depth: last },
         };
     }
     let base = wide(brighter(line[read], under));
-    let place = fall(line, scratch, at, start, under);
+    let bookmark = fall(line, scratch, at, start, under);
     Step {
         found: true,
         stretch: Stretch {
@@ -144,12 +144,12 @@ fn close(line: &[Pixel], scratch: &mut [u8], at: Place) -> Step
             level,
             base,
         },
-        place,
+        bookmark,
     }
 }
 
-// No stretch, and the place as it was.
-fn nothing(at: Place) -> Step
+// No stretch, and the bookmark as it was.
+fn nothing(at: Bookmark) -> Step
     ensures { λ r. ⌜ r ≡ noStep at ⌝ }
 {
     Step {
@@ -160,12 +160,12 @@ fn nothing(at: Place) -> Step
             level: 0,
             base: 0,
         },
-        place: at,
+        bookmark: at,
     }
 }
 
 // One step of a reading that stands at `at`: on to where a run ends, and that run.
-fn find(line: &[Pixel], scratch: &mut [u8], at: Place) -> Step
+fn find(line: &[Pixel], scratch: &mut [u8], at: Bookmark) -> Step
     requires { ⌜ Ready (now line) (now scratch) at ⌝ }
     ensures { λ r. ⌜ Follows run8 (now (line .entry)) (now (scratch .entry)) at (now (scratch .exit)) r ⌝ }
 {
@@ -177,9 +177,9 @@ fn find(line: &[Pixel], scratch: &mut [u8], at: Place) -> Step
     close(line, scratch, here)
 }
 
-// The next stretch of a line and the place to go on from, where a reading that `begin` began stands at `at`, its open runs in the scratch.
-// Handed a place at which no reading can stand, it finds nothing and changes nothing.
-pub fn next(line: &[Pixel], scratch: &mut [u8], at: Place) -> Step
+// The next stretch of a line and the bookmark to go on from, where a reading that `begin` began stands at `at`, its open runs in the scratch.
+// Handed a bookmark at which no reading can stand, it finds nothing and changes nothing.
+pub fn next(line: &[Pixel], scratch: &mut [u8], at: Bookmark) -> Step
     ensures { λ r. ⌜ Follows run8 (now (line .entry)) (now (scratch .entry)) at (now (scratch .exit)) r ⌝ }
 {
     if is_ready(line.len(), scratch.len(), at) {

@@ -4,7 +4,7 @@ mod listing;
 mod runs;
 mod tally;
 
-pub use bright::Place;
+pub use bright::Bookmark;
 pub use bright::Step;
 pub use bright::Stretch;
 pub use generator::begin;

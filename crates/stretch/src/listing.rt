@@ -1,6 +1,6 @@
 // The list of bright stretches in a lent table.
+use crate::Bookmark;
 use crate::Pixel;
-use crate::Place;
 use crate::Stretch;
 use crate::generator::begin;
 use crate::generator::next;
@@ -31,12 +31,12 @@ fn refusal(line: &[Pixel], room: usize, spare: usize) -> Answer
     a.needing(8, room, count(line))
 }
 
-// Where the reading of a listing starts: at a refusal nowhere, at a place where none can stand.
-fn start(a: Answer) -> Place
+// Where the reading of a listing starts. On refusal that is a bookmark at which no reading can stand, so `next` finds nothing.
+fn start(a: Answer) -> Bookmark
     ensures { λ r. ⌜ r ≡ startOf a ⌝ }
 {
     if a.number != 0 {
-        return Place { read: 0, depth: 1 };
+        return Bookmark { read: 0, depth: 1 };
     }
     begin()
 }
@@ -62,7 +62,7 @@ pub fn list(line: &[Pixel], table: &mut [Stretch], scratch: &mut [u8]) -> Answer
         let step = next(line, scratch, at);
         if step.found {
             table[i] = step.stretch;
-            at = step.place;
+            at = step.bookmark;
             i += 1;
         } else {
             break;

@@ -72,15 +72,15 @@ fn put_stretches(dst: &mut [u8], at: usize, line: &[Pixel], scratch: &mut [u8]) 
     ensures { λ r. ⌜ Puts (now (dst .entry)) at (stretchesText (stretches (now (line .entry)))) (now (dst .exit)) r × (length (now (scratch .exit)) ≡ length (now (scratch .entry))) ⌝ }
 {
     let mut end = at;
-    let mut place = begin();
+    let mut bookmark = begin();
     loop {
-        let step = next(line, scratch, place);
+        let step = next(line, scratch, bookmark);
         if !step.found {
             return end;
         }
         let fields = stretch_fields(step.stretch);
         end = put_line(dst, end, b'Z', &fields);
-        place = step.place;
+        bookmark = step.bookmark;
     }
 }
 

@@ -35,7 +35,7 @@ use Rattle.opening.specs.Directions.{FindsDirections}
 use Rattle.opening.specs.Host.{HostOpens}
 use Rattle.opening.proofs.Laws as opening
 use Rattle.bright.specs.declared.Stretch.{Stretch}
-use Rattle.bright.specs.declared.Place.{Place}
+use Rattle.bright.specs.declared.Bookmark.{Bookmark}
 use Rattle.bright.specs.declared.Step.{Step}
 use Rattle.bright.specs.Generator.{Layout, coming, Follows}
 use Rattle.bright.specs.Listing.{ListsLine}
@@ -103,9 +103,9 @@ pub list-once : {f : List ℕ} {table table₁ table₂ : List Stretch} {t t₁ 
     → ListsLine f table table₂ t t₂ a₂ → (a₁ ≡ a₂) × (table₁ ≡ table₂)
 list-once = lists-once
 
--- the place and the scratch that a step leaves are settled by what comes from there
-pub next-once : {run : Layout} {f t : List ℕ} {p : Place} {t₁ t₂ : List ℕ} {r₁ r₂ : Step} → Follows run f t p t₁ r₁ → Follows run f t p t₂ r₂
-    → (r₁ .found ≡ r₂ .found) × (r₁ .stretch ≡ r₂ .stretch) × (coming run f t₁ (r₁ .place) ≡ coming run f t₂ (r₂ .place))
+-- what a step hands back is settled, and so is what comes from there; the bytes of scratch are not
+pub next-once : {run : Layout} {f t : List ℕ} {p : Bookmark} {t₁ t₂ : List ℕ} {r₁ r₂ : Step} → Follows run f t p t₁ r₁ → Follows run f t p t₂ r₂
+    → (r₁ ≡ r₂) × (coming run f t₁ (r₁ .bookmark) ≡ coming run f t₂ (r₂ .bookmark))
 next-once = follows-once
 
 -- ---- size sums

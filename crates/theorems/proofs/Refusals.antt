@@ -137,8 +137,7 @@ module _ {f : List ℕ} {sh : Shape} {L : ℕ} {g g′ t t′ : List ℕ} where
 
 pub list-settled : {f : List ℕ} {table table′ : List Stretch} {t t′ : List ℕ} {a : Answer} → ListsLine f table table′ t t′ a
     → Settled (listRules (length f) (length t) (length table) (length (stretches f))) (length (stretches f)) a ((table′ ≡ table) × (t′ ≡ t))
-list-settled {table = table} {t = t} {a = a} p =
-    settled _ _ refl (p .answers) (λ r. (p .written ∙ after-refused a _ table r, p .scratch-kept ∙ after-refused a _ t r))
+list-settled {table = table} {a = a} p = settled _ _ refl (p .answers) (λ r. (p .written ∙ after-refused a _ table r, p .scratch-kept r))
 
 pub sums-of-line-settled : {f sums sums′ t t′ : List ℕ} {a : Answer} → SumsLine f sums sums′ t t′ a
     → Settled (lineRules (length f) (length sums) (length t)) 0 a ((sums′ ≡ sums) × (t′ ≡ t))

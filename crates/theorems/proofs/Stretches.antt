@@ -26,10 +26,10 @@ use Rattle.answer.specs.Rules.{done}
 use Rattle.answer.proofs.Rules.{after-done}
 use Rattle.line.specs.Windows.{opened}
 use Rattle.bright.specs.declared.Stretch.{Stretch}
-use Rattle.bright.specs.Stretches.{levelOf, stretchOf, stretches, Bright, Later}
+use Rattle.bright.specs.Stretches.{levelOf, stretchOf, stretches, Bright, ListedBefore}
 use Rattle.bright.specs.Listing.{ListsLine}
 use Rattle.bright.proofs.Listed.{stretch-listed, listed-stretch}
-use Rattle.bright.proofs.Order.{stretches-ordered, ordered-later, later-differs}
+use Rattle.bright.proofs.Order.{stretches-ordered, ordered-before, before-differs}
 use Rattle.bright.proofs.Counting.{stretches-few}
 use Rattle.bridge.specs.Reach.{reaching}
 use Rattle.bridge.specs.Sums.{binFor, restFor, lightOf}
@@ -81,14 +81,14 @@ module _ {f : List ℕ} {table table′ : List Stretch} {scratch scratch′ : Li
     nothing-else s m = listed-stretch f s (rw listed-is at m)
 
     -- 'earlier end first and the shorter first among equal ends'
-    pub in-order : (e : Stretch) (i j : ℕ) → i < j → j < a .figure → Later (getD table′ i e) (getD table′ j e)
+    pub in-order : (e : Stretch) (i j : ℕ) → i < j → j < a .figure → ListedBefore (getD table′ i e) (getD table′ j e)
     in-order e i j h k =
-        let later : Later (getD (stretches f) i e) (getD (stretches f) j e) = ordered-later e (stretches f) i j (stretches-ordered f) h (omega (arith, counted)) in
-        rw (entry-is i e (omega arith), entry-is j e k) later
+        let listed : ListedBefore (getD (stretches f) i e) (getD (stretches f) j e) = ordered-before e (stretches f) i j (stretches-ordered f) h (omega (arith, counted)) in
+        rw (entry-is i e (omega arith), entry-is j e k) listed
 
     -- 'It holds each once'
     pub each-once : (e : Stretch) (i j : ℕ) → i < j → j < a .figure → getD table′ i e ≡ getD table′ j e → ⊥
-    each-once e i j h k = later-differs (getD table′ i e) (getD table′ j e) (in-order e i j h k)
+    each-once e i j h k = before-differs (getD table′ i e) (getD table′ j e) (in-order e i j h k)
 
     -- 'Entries past the list do not change.'
     pub entries-stay : (e : Stretch) (k : ℕ) → a .figure ≤ k → getD table′ k e ≡ getD table k e

@@ -16,18 +16,18 @@ fn check_stretch(check: u64, z: Stretch) -> u64 {
 
 // The stretches one after the other: how many are found, and their checksum. A line has no more of them than pixels; one turn more would be one too many.
 fn stretches(src: &[u8], scratch: &mut [u8]) -> Got {
-    let mut place = stretch::begin();
+    let mut bookmark = stretch::begin();
     let mut found: u64 = 0;
     let mut check = 1;
     let mut turns: usize = 0;
     while turns <= 5000 {
-        let step = stretch::next(src, scratch, place);
+        let step = stretch::next(src, scratch, bookmark);
         if !step.found {
             break;
         }
         found = std::num::wrapping_add_u64(found, 1);
         check = check_stretch(check, step.stretch);
-        place = step.place;
+        bookmark = step.bookmark;
         turns += 1;
     }
     Got {

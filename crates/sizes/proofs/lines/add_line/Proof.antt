@@ -5,7 +5,7 @@ use native.Mathlib.Omega.{arith}
 use lib.ListN.{length}
 use borrow.Author.Tests.{not-true, not-false}
 use Rattle.bright.specs.Generator.{run8, coming}
-use Rattle.bright.proofs.Steps.{coming-beginning, coming-none}
+use Rattle.bright.proofs.Steps.{coming-beginning, coming-next, coming-none}
 use Rattle.sizes.proofs.Lights.{Adding, adding-start, adding-sound, adding-more, adding-end, adding-modest}
 use borrow.Author.Needs.{needs}
 use Rattle.sizes.proofs.lines.add_line.Statement.{statement}
@@ -44,7 +44,7 @@ returns c =
     let some = entry .pre .2 in
     let at = c .before .before .before .before .before .before .loop in
     let next = c .before .before .before .before .next in
-    let none = coming-none run8 line (at .scratch) (at .at) _ (next .result) (next .ensures) (not-true _ (c .if1 .taken)) in
+    let none = coming-none (next .ensures) (not-true _ (c .if1 .taken)) in
     (adding-end line sums some (at .sums) (rw none at (at .inv .1)), next .ensures .kept ∙ at .inv .0)
 
 add-light-requires : tie.Need-add-light-requires Inv-loop μ-loop
@@ -56,7 +56,7 @@ add-light-requires c κs =
     let pixel = c .before .before .before .before .before .before .before .before .before .before .before .shared-slice-known .given in
     let at = c .before .before .before .before .before .before .before .loop in
     let next = c .before .before .before .before .before .next in
-    let comes = next .ensures .comes (not-false _ (c .before .if1 .left)) in
+    let comes = coming-next (next .ensures) (not-false _ (c .before .if1 .left)) in
     let adding : Adding line sums (next .result .stretch ∷ _) (at .sums) = rw comes at (at .inv .1) in
     let modest = adding-modest line sums _ (at .sums) (pre .0) (λ i. omega (arith, pixel i)) (pre .3) (at .inv .1) in
     (adding-sound line sums _ _ (at .sums) adding, omega (arith, at .inv .1 .same, pre .2), modest)
@@ -64,7 +64,7 @@ add-light-requires c κs =
 loop-less : tie.Need-loop-less Inv-loop μ-loop
 loop-less c =
     let next = c .before .before .before .before .before .before .before .before .before .next in
-    let comes = next .ensures .comes (not-false _ (c .before .before .before .before .before .if1 .left)) in
+    let comes = coming-next (next .ensures) (not-false _ (c .before .before .before .before .before .if1 .left)) in
     omega (arith, ap length comes)
 
 loop-again : tie.Need-loop-again Inv-loop μ-loop
@@ -75,7 +75,7 @@ loop-again c =
     let some = entry .pre .2 in
     let at = c .before .before .before .before .before .before .before .before .before .before .before .loop in
     let next = c .before .before .before .before .before .before .before .before .before .next in
-    let comes = next .ensures .comes (not-false _ (c .before .before .before .before .before .if1 .left)) in
+    let comes = coming-next (next .ensures) (not-false _ (c .before .before .before .before .before .if1 .left)) in
     let lit = c .before .before .before .add-light .ensures in
     (next .ensures .kept ∙ at .inv .0, adding-more line sums some (next .result .stretch) _ (at .sums) _ (rw comes at (at .inv .1)) lit)
 

@@ -16,7 +16,7 @@ returns : tie.Need-returns
 returns c =
     let entry = c .before .before .before .before .before in
     let a = entry .args in
-    falls-pop run8 (a .line .now) (a .scratch .now) (a .at) (a .start) (a .under) (entry .pre .0) (entry .pre .1) (c .before .if1 .taken) (c .if2 .taken)
+    falls-pop run8 (a .line .now) (a .scratch .now) (a .at) (a .start) (a .under) (entry .pre .0) (c .before .if1 .taken) (c .if2 .taken)
 
 put-requires : tie.Need-put-requires
 put-requires c κs = search needs
@@ -34,8 +34,8 @@ returns-2 c =
     let entry = met .before .before .before .before in
     let a = entry .args in
     ⊎-elim
-    (λ low. falls-low run8 (a .line .now) (a .scratch .now) (a .at) (a .start) (a .under) (entry .pre .0) (entry .pre .1) (stored .last .0) (stored .kept .0) (low .1 .left) (stored .ensures))
-    (λ first. falls-first run8 (a .line .now) (a .scratch .now) (a .at) (a .start) (a .under) (entry .pre .0) (entry .pre .1) (stored .last .0) (stored .kept .0) (first .left) (stored .ensures))
+    (λ low. falls-low run8 (a .line .now) (a .scratch .now) (a .at) (a .start) (a .under) (entry .pre .0) (stored .last .0) (low .1 .left) (stored .ensures))
+    (λ first. falls-first run8 (a .line .now) (a .scratch .now) (a .at) (a .start) (a .under) (entry .pre .0) (stored .last .0) (first .left) (stored .ensures))
     (met .if1 .came)
 
 pub fall-spec : {M : Type 1} → statement M

@@ -23,7 +23,7 @@ returns c =
     let first = at-first .open-first in
     let none = first .ensures .none (c .before .if1 .taken) in
     let a = entry .args in
-    rw (c .nothing .ensures) (follows-none run8 (a .line .now) (a .scratch .now) (a .at) (first .last .1 .0) (entry .pre) (none .0) (none .1))
+    rw (c .nothing .ensures) (follows-none run8 (a .line .now) (a .scratch .now) (a .at) (first .last .1 .0) (entry .pre) (none .0) (none .1) (none .2))
 
 climb-requires : tie.Need-climb-requires
 climb-requires c κs =

@@ -1,4 +1,4 @@
--- The test of the place decides.
+-- The test of the bookmark decides.
 use mathlib.Core.Path.{sym, _∙_}
 use Rattle.bright.proofs.Steps.{test-ready, follows-lost}
 use Rattle.bright.specs.Generator.{run8}

@@ -59,7 +59,7 @@ use Rattle.answer.specs.Rules.{answer}
 use Rattle.answer.proofs.Answer as Q
 use Rattle.answer.proofs.Answer.Laws as Q′
 use Rattle.bright.specs.declared.Stretch.{Stretch}
-use Rattle.bright.specs.declared.Place.{Place}
+use Rattle.bright.specs.declared.Bookmark.{Bookmark}
 use Rattle.bright.specs.declared.Step.{Step}
 use Rattle.bright.specs.Generator.{run8, coming, Follows}
 use Rattle.bright.specs.Listing.{ListsLine}
@@ -68,8 +68,8 @@ use Rattle.bright.proofs.Laying.{listed, Laying, laying-start, laying-room, lay
 use Rattle.bright.proofs.Again.{LentAgain, lends-again, comes-back}
 use Rattle.bright.proofs.Stretch as T
 use Rattle.bright.proofs.Stretch.Laws as T′
-use Rattle.bright.proofs.Place as P
-use Rattle.bright.proofs.Place.Laws as P′
+use Rattle.bright.proofs.Bookmark as B
+use Rattle.bright.proofs.Bookmark.Laws as B′
 use Rattle.bright.proofs.Step as S
 use Rattle.bright.proofs.Step.Laws as S′
 use Rattle.stretch.proofs.listing.refusal as refusal
@@ -131,12 +131,12 @@ is-false : (t : Bool) → Holds (not t) → t ≡ false
 is-false true h = absurd h
 is-false false h = refl
 
--- the machine values of a stretch and of a place
+-- the machine values of a stretch and of a bookmark
 abbrev stretch-val : Stretch → Val
 stretch-val s = only (LL.vals T.the-type T′.the-laws s)
 
-abbrev place-val : Place → Val
-place-val p = only (LL.vals P.the-type P′.the-laws p)
+abbrev bookmark-val : Bookmark → Val
+bookmark-val p = only (LL.vals B.the-type B′.the-laws p)
 
 -- the contracts that the proof cites
 module _ {M : Type 1} (𝓤 : URA M) (H : Heap 𝓤) (A : Atoms 𝓤) (mem : Memory → SProp 𝓤) (run : Routine → Fun 𝓤) where
@@ -250,19 +250,19 @@ module _ {M : Type 1} (𝓤 : URA M) (H : Heap 𝓤) (A : Atoms 𝓤) (W : Given
         qed W (‵ ftrue ∷ []) ∵ nothing ! $ owned ! usize (Is usize) (uint-makes 𝓤 H A W w64) i _ (refl, fits) $ fjoin ! $
         owned ! Q.the-row (Is Q.the-row) ((LL.makes Q.the-type Q′.the-plain) 𝓤 H A) a _ is-a $ fjoin ! $ move ! (1 ∷ 0 ∷ []) $ join ! $ frame ! $ done !
 
-  module _ (ν : ℕ) (δ : GName) (zs : List ℕ) (p : Place) where
+  module _ (ν : ℕ) (δ : GName) (zs : List ℕ) (p : Bookmark) where
     abbrev to-next : Next 𝓤 H A mem run .Ghost
-    to-next = (((κ₀, (ν ∷ [], tt)), (q₀, (fullShare, tt)), tt, (x, (z δ zs, (p, tt))), (s₀ ∷ [], (s₂ ∷ [], (place-val p ∷ [], tt)))), tt)
+    to-next = (((κ₀, (ν ∷ [], tt)), (q₀, (fullShare, tt)), tt, (x, (z δ zs, (p, tt))), (s₀ ∷ [], (s₂ ∷ [], (bookmark-val p ∷ [], tt)))), tt)
 
     abbrev Again : Fml
     Again = MutSlice (named 1) (ν ∷ []) u8 .own (z δ zs) (s₂ ∷ [])
 
-    goes-next : Is P.the-row p (place-val p ∷ []) → ent 𝓤 (⋆ 𝓤 H A ((‵ (flft κ₀ q₀) ⊛ ‵ (flft (ν ∷ []) fullShare)) ∷ ‵ Line ∷ ‵ Again ∷ []))
+    goes-next : Is B.the-row p (bookmark-val p ∷ []) → ent 𝓤 (⋆ 𝓤 H A ((‵ (flft κ₀ q₀) ⊛ ‵ (flft (ν ∷ []) fullShare)) ∷ ‵ Line ∷ ‵ Again ∷ []))
         (Next 𝓤 H A mem run .pre to-next)
     goes-next is =
         qed W ((‵ (flft κ₀ q₀) ⊛ ‵ (flft (ν ∷ []) fullShare)) ∷ ‵ Line ∷ ‵ Again ∷ []) ∵ split ! $
         nothing ! $ move ! (2 ∷ 0 ∷ []) $ join ! $ move ! (1 ∷ 0 ∷ []) $ join ! $
-        nothing ! $ owned ! P.the-row (Is P.the-row) ((LL.makes P.the-type P′.the-plain) 𝓤 H A) p _ is $ fjoin ! $ move ! (3 ∷ 0 ∷ []) $ fjoin ! $
+        nothing ! $ owned ! B.the-row (Is B.the-row) ((LL.makes B.the-type B′.the-plain) 𝓤 H A) p _ is $ fjoin ! $ move ! (3 ∷ 0 ∷ []) $ fjoin ! $
         move ! (2 ∷ 0 ∷ []) $ fjoin ! $
         move ! (1 ∷ 0 ∷ []) $ join ! $ frame ! $ done !
 
@@ -278,7 +278,7 @@ module _ {M : Type 1} (𝓤 : URA M) (H : Heap 𝓤) (A : Atoms 𝓤) (W : Given
       Λ = 𝓣 .Λ
 
       abbrev En : Env 𝓤 H
-      En = (Q′.mir, l₀) ∷ (line-ty, l₁) ∷ (table-ty, l₂) ∷ (scratch-ty, l₃) ∷ (Q′.mir, l₄) ∷ (P′.mir, l₅) ∷ (word, l₆) ∷ (S′.mir, l₇) ∷ (word, l₈) ∷ (
+      En = (Q′.mir, l₀) ∷ (line-ty, l₁) ∷ (table-ty, l₂) ∷ (scratch-ty, l₃) ∷ (Q′.mir, l₄) ∷ (B′.mir, l₅) ∷ (word, l₆) ∷ (S′.mir, l₇) ∷ (word, l₈) ∷ (
         word,
         l₉,
       ) ∷ (mut-ref, l₁₀) ∷ (mut-ty, l₁₁) ∷ (tyBool, l₁₂) ∷ (word, l₁₃) ∷ (tyPtr, l₁₄) ∷ []
@@ -287,8 +287,8 @@ module _ {M : Type 1} (𝓤 : URA M) (H : Heap 𝓤) (A : Atoms 𝓤) (W : Given
       record Stand : Type 0 where
         ds : List Stretch
         zs : List ℕ
-        at : Place
-        is : Is P.the-row at (place-val at ∷ [])
+        at : Bookmark
+        is : Is B.the-row at (bookmark-val at ∷ [])
         laying : Laying run8 (now x) ts ss a ds zs at
 
       abbrev left : Stand → ℕ
@@ -300,13 +300,13 @@ module _ {M : Type 1} (𝓤 : URA M) (H : Heap 𝓤) (A : Atoms 𝓤) (W : Given
       Nearer-wf : WellFounded Nearer
       Nearer-wf = InvImage·wf left (Nat·lt-wfRel .wf)
 
-      -- the locals between the calls, the last first, each with the right to free it; n is the cell of i, and p that of the place
+      -- the locals between the calls, the last first, each with the right to free it; n is the cell of i, and p that of the bookmark
       abbrev Locals : Fml → Fml → List (Item 𝓤) → List (Item 𝓤)
       Locals n p rest =
           ‵ (froom tyPtr l₁₄ 0) ∷ ‵ (fdies tyPtr l₁₄) ∷ ‵ (froom word l₁₃ 0) ∷ ‵ (fdies word l₁₃) ∷ ‵ (froom tyBool l₁₂ 0) ∷ ‵ (fdies tyBool l₁₂)
           ∷ ‵ (froom mut-ty l₁₁ 0) ∷ ‵ (fdies mut-ty l₁₁) ∷ ‵ (froom mut-ref l₁₀ 0) ∷ ‵ (fdies mut-ref l₁₀)
           ∷ ‵ (fat fullShare word l₉ 0 (vint w64 (length ss))) ∷ ‵ (fdies word l₉) ∷ ‵ (fat fullShare word l₈ 0 (vint w64 (length ts))) ∷ ‵ (fdies word l₈)
-          ∷ ‵ (froom S′.mir l₇ 0) ∷ ‵ (fdies S′.mir l₇) ∷ ‵ n ∷ ‵ (fdies word l₆) ∷ ‵ p ∷ ‵ (fdies P′.mir l₅)
+          ∷ ‵ (froom S′.mir l₇ 0) ∷ ‵ (fdies S′.mir l₇) ∷ ‵ n ∷ ‵ (fdies word l₆) ∷ ‵ p ∷ ‵ (fdies B′.mir l₅)
           ∷ ‵ (fat fullShare Q′.mir l₄ 0 ua) ∷ ‵ (fdies Q′.mir l₄) ∷ ‵ (fat fullShare scratch-ty l₃ 0 s₂) ∷ ‵ (fdies scratch-ty l₃)
           ∷ ‵ (fat fullShare table-ty l₂ 0 s₁) ∷ ‵ (fdies table-ty l₂) ∷ ‵ (fat fullShare line-ty l₁ 0 s₀) ∷ ‵ (fdies line-ty l₁) ∷ ‵ (froom Q′.mir l₀ 0) ∷ ‵
           (fdies Q′.mir l₀)
@@ -314,7 +314,7 @@ module _ {M : Type 1} (𝓤 : URA M) (H : Heap 𝓤) (A : Atoms 𝓤) (W : Given
 
       -- the loop's head
       abbrev At : Stand → List (Item 𝓤)
-      At i = Locals (fat fullShare word l₆ 0 (vint w64 (length (i .ds)))) (fat fullShare P′.mir l₅ 0 (place-val (i .at))) (Lent (i .ds) (i .zs))
+      At i = Locals (fat fullShare word l₆ 0 (vint w64 (length (i .ds)))) (fat fullShare B′.mir l₅ 0 (bookmark-val (i .at))) (Lent (i .ds) (i .zs))
 
       -- a turn's postcondition: it ends nearer to the list's end, or the loop is left and the rest of the body runs
       abbrev Turned : Stand → Out → SProp 𝓤
@@ -364,7 +364,7 @@ module _ {M : Type 1} (𝓤 : URA M) (H : Heap 𝓤) (A : Atoms 𝓤) (W : Given
           let f : r .found ≡ true = is-true (r .found) y in
           let fields = LL.owed S.the-type S′.the-laws r _ is in
           let is-s : Is R (r .stretch) (stretch-val (r .stretch) ∷ []) = fields .1 .0 in
-          let is-p : Is P.the-row (r .place) (place-val (r .place) ∷ []) = fields .1 .1 .0 in
+          let is-p : Is B.the-row (r .bookmark) (bookmark-val (r .bookmark) ∷ []) = fields .1 .1 .0 in
           assigns ! (bin ! (load ! (from ! (stop !)) (look ! 16 refl)) (lit ! tt) (record { fits = scaled (w .1 .0) r e f })) (from ! (stop !))
           (init ! 2 refl (tt, record { fits = scaled (w .1 .0) r e f })) $
           assigns ! (bin ! (load ! (from ! (fld ! refl (stop !))) (look-in ! 24 (sub ! 0 refl (whole !)))) (load ! (from ! (stop !)) (look ! 2 refl)) tt)
@@ -382,7 +382,7 @@ module _ {M : Type 1} (𝓤 : URA M) (H : Heap 𝓤) (A : Atoms 𝓤) (W : Given
           closes-slice ! tt R (laid (i .ds)) (set (laid (i .ds)) n (r .stretch)) (length-set (laid (i .ds)) n (r .stretch)) b o $
           -- [obs; the borrow; the table's token; _14; …; _7 at 17; _6 at 19; _5 at 21]
           assigns ! (of-opd ! (load ! (from ! (fld ! refl (stop !))) (look-in ! 17 (sub ! 2 refl (whole !))))) (from ! (stop !))
-          (store ! 21 refl (LL.lawful P.the-type P′.the-laws 𝓤 H A W .typed (r .place) _ is-p .0)) $
+          (store ! 21 refl (LL.lawful B.the-type B′.the-laws 𝓤 H A W .typed (r .bookmark) _ is-p .0)) $
           assigns-last ! (bin ! (load ! (from ! (stop !)) (look ! 19 refl)) (lit ! tt) (record { fits = counted (w .1 .0) r e f })) (from ! (stop !))
           (store ! 19 refl (tt, record { fits = counted (w .1 .0) r e f })) $
           forget ! 3 refl $ forget ! 5 refl $ forget ! 7 refl $ forget ! 9 refl $ forget ! 11 refl $ forget ! 17 refl $
@@ -394,7 +394,7 @@ module _ {M : Type 1} (𝓤 : URA M) (H : Heap 𝓤) (A : Atoms 𝓤) (W : Given
           (record {
             ds = i .ds ++ (r .stretch ∷ []);
             zs = w .1 .0;
-            at = r .place;
+            at = r .bookmark;
             is = is-p;
             laying = laying-step run8 (now x) ts ss a (i .ds) (i .zs) (i .at) (i .laying) (w .1 .0) r e f;
           })
@@ -421,7 +421,7 @@ module _ {M : Type 1} (𝓤 : URA M) (H : Heap 𝓤) (A : Atoms 𝓤) (W : Given
           zs : List ℕ
           zs = i .zs
 
-          at : Place
+          at : Bookmark
           at = i .at
 
           n : ℕ
@@ -448,29 +448,29 @@ module _ {M : Type 1} (𝓤 : URA M) (H : Heap 𝓤) (A : Atoms 𝓤) (W : Given
           scaled : (zs′ : List ℕ) (r : Step) → Follows run8 (now x) (i .zs) (i .at) zs′ r → r .found ≡ true → length (i .ds) * 8 < 2 ^ 64
           scaled zs′ r e f = omega (arith, fit zs′ r e f, room₁ .1)
 
-      -- the place is known: the loop
-      looped : (p : Place) → Is P.the-row p (place-val p ∷ []) → p ≡ startOf a
-          → Sq W (Locals (froom word l₆ 0) (fat fullShare P′.mir l₅ 0 (place-val p)) (Lent [] ss)) (runs C Λ En body.t-5 (atRet En Post))
+      -- the bookmark is known: the loop
+      looped : (p : Bookmark) → Is B.the-row p (bookmark-val p ∷ []) → p ≡ startOf a
+          → Sq W (Locals (froom word l₆ 0) (fat fullShare B′.mir l₅ 0 (bookmark-val p)) (Lent [] ss)) (runs C Λ En body.t-5 (atRet En Post))
       looped p is e =
           assigns ! (of-opd ! (lit ! tt)) (from ! (stop !)) (init ! 16 refl (tt, record { fits = lit< tt })) $
           first ! $ blocks ! $ loops ! 𝓣 Nearer Nearer-wf At turns (record { ds = []; zs = ss; at = p; is = is; laying = laying-start run8 (now x) ts ss a p e-a e })
 
-      start-said : (p : Place) → ent 𝓤 (ensured 𝓤 H A start.ended (start.clauses 𝓤 H A mem run) tt (a, tt) tt p) (fact 𝓤 (p ≡ startOf a))
+      start-said : (p : Bookmark) → ent 𝓤 (ensured 𝓤 H A start.ended (start.clauses 𝓤 H A mem run) tt (a, tt) tt p) (fact 𝓤 (p ≡ startOf a))
       start-said p = exE 𝓤 _ (λ ws. snd∗ 𝓤 (sem 𝓤 H A (lasts start.ended tt (a, tt) ws)) (fact 𝓤 (p ≡ startOf a)))
 
       -- the answer is known: the call of `start`
-      started : Triple 𝓤 (𝓣 .C #start) (Start 𝓤 H A mem run) → Sq W (Locals (froom word l₆ 0) (froom P′.mir l₅ 0) (Lent [] ss)) (runs C Λ En body.t-4 (atRet En Post))
+      started : Triple 𝓤 (𝓣 .C #start) (Start 𝓤 H A mem run) → Sq W (Locals (froom word l₆ 0) (froom B′.mir l₅ 0) (Lent [] ss)) (runs C Λ En body.t-4 (atRet En Post))
       started known-start =
           nothing ! $ use1 W (raw (Start 𝓤 H A mem run .pre (to-start a ua is-a))) (goes-start a ua is-a) $
           calls-at ! fm (Start 𝓤 H A mem run) known-start (to-start a ua is-a) (and-then ! (load ! (from ! (stop !)) (look ! 21 refl)) (no-more !)) (λ u.
-          use1 W (later (some (λ (p : Place). (‵ ftrue ⊛ ‵ (P.the-row .own p (u ∷ []))) ⊛ raw
+          use1 W (later (some (λ (p : Bookmark). (‵ ftrue ⊛ ‵ (B.the-row .own p (u ∷ []))) ⊛ raw
           (ensured 𝓤 H A start.ended (start.clauses 𝓤 H A mem run) tt (a, tt) tt p)))) (id⊢ 𝓤 _) $ await ! tt $ pick ! (λ p.
           split ! $ move ! (1 ∷ []) $ use1 W (raw (fact 𝓤 (p ≡ startOf a))) (start-said p) $ heard ! (p ≡ startOf a) (λ e. split ! $ move ! (1 ∷ []) $
-          -- [what the place owns; …; _14; …; _5 at 20]
-          peeks ! P.the-row (Is P.the-row) (shows 𝓤 H A P.the-row) p (u ∷ []) (λ is.
-          land ! (from ! (stop !)) (init ! 20 refl (LL.lawful P.the-type P′.the-laws 𝓤 H A W .typed p _ is .0)) $
-          rewrite ! 20 (λ (v : Val). ‵ (fat fullShare P′.mir l₅ 0 v)) (ap only (LL.tells P.the-type P′.the-laws p _ is)) refl $ drop ! $ drop ! $
-          looped p (subst (Is P.the-row p) (LL.tells P.the-type P′.the-laws p _ is) is) e))))
+          -- [what the bookmark owns; …; _14; …; _5 at 20]
+          peeks ! B.the-row (Is B.the-row) (shows 𝓤 H A B.the-row) p (u ∷ []) (λ is.
+          land ! (from ! (stop !)) (init ! 20 refl (LL.lawful B.the-type B′.the-laws 𝓤 H A W .typed p _ is .0)) $
+          rewrite ! 20 (λ (v : Val). ‵ (fat fullShare B′.mir l₅ 0 v)) (ap only (LL.tells B.the-type B′.the-laws p _ is)) refl $ drop ! $ drop ! $
+          looped p (subst (Is B.the-row p) (LL.tells B.the-type B′.the-laws p _ is) is) e))))
 
   refusal-said : (a : Answer) → ent 𝓤 (ensured 𝓤 H A refusal.ended (refusal.clauses 𝓤 H A mem run) (κ₀, tt) (x, (length ts, (length ss, tt))) tt a)
       (fact 𝓤 (a ≡ answer (listed (now x) ts ss) 0))

@@ -7,7 +7,7 @@ use lib.ListN.{length}
 use borrow.Author.Tests.{not-true, not-false}
 use Rattle.bright.specs.Generator.{run8, coming}
 use Rattle.bright.specs.Stretches.{stretches}
-use Rattle.bright.proofs.Steps.{coming-beginning, coming-none}
+use Rattle.bright.proofs.Steps.{coming-beginning, coming-next, coming-none}
 use Rattle.text.specs.Lines.{lineText}
 use Rattle.text.specs.Stretches.{stretchFields, stretchesText}
 use Rattle.text.proofs.Runs.{Left, left-start, left-more, left-end, left-room, puts-none}
@@ -17,11 +17,11 @@ use Rattle.text.proofs.stretches.put_stretches.Statement.{statement}
 use Rattle.text.proofs.stretches.put_stretches.Tie as tie
 
 abbrev Inv-loop : tie.InvT-loop
-Inv-loop dst₀ at line scratch₀ end₀ place₀ dst scratch end place =
-    (length scratch ≡ length scratch₀) × (length dst ≡ length dst₀) × Left dst₀ at (stretchesText (stretches line)) dst end (stretchesText (coming run8 line scratch place))
+Inv-loop dst₀ at line scratch₀ end₀ bookmark₀ dst scratch end bookmark =
+    (length scratch ≡ length scratch₀) × (length dst ≡ length dst₀) × Left dst₀ at (stretchesText (stretches line)) dst end (stretchesText (coming run8 line scratch bookmark))
 
 abbrev μ-loop : tie.MeasureT-loop
-μ-loop dst₀ at line scratch₀ end₀ place₀ dst scratch end place = length (coming run8 line scratch place)
+μ-loop dst₀ at line scratch₀ end₀ bookmark₀ dst scratch end bookmark = length (coming run8 line scratch bookmark)
 
 begin-requires : tie.Need-begin-requires Inv-loop μ-loop
 begin-requires c κs = search needs
@@ -43,10 +43,9 @@ same-length-2 c = search needs
 
 returns : tie.Need-returns Inv-loop μ-loop
 returns c =
-    let line = c .before .before .before .before .before .before .before .before .before .before .before .args .line .now in
     let at = c .before .before .before .before .before .before .loop in
     let next = c .before .before .before .before .next in
-    let none = coming-none run8 line (at .scratch) (at .place) _ (next .result) (next .ensures) (not-true _ (c .if1 .taken)) in
+    let none = coming-none (next .ensures) (not-true _ (c .if1 .taken)) in
     (left-end (rw (none, stretches-none) at (at .inv .2)) (puts-none (at .dst) (at .end)), next .ensures .kept ∙ at .inv .0)
 
 stretch-fields-requires : tie.Need-stretch-fields-requires Inv-loop μ-loop
@@ -59,7 +58,7 @@ put-line-requires : tie.Need-put-line-requires Inv-loop μ-loop
 put-line-requires c κs =
     let at = c .before .before .before .before .before .before .before .before .before .loop in
     let next = c .before .before .before .before .before .before .before .next in
-    let comes = next .ensures .comes (not-false _ (c .before .before .before .if1 .left)) in
+    let comes = coming-next (next .ensures) (not-false _ (c .before .before .before .if1 .left)) in
     let left = rw (comes, stretches-cons) at (at .inv .2) in
     let same = ap (λ (fields : List ℕ). length (lineText 90 fields)) (c .before .before .stretch-fields .ensures) in
     let room = left-room (lineText 90 (stretchFields (next .result .stretch))) _ left in
@@ -69,7 +68,7 @@ loop-less : tie.Need-loop-less Inv-loop μ-loop
 loop-less c =
     omega (
       arith,
-      ap length (c .before .before .before .before .before .before .before .before .before .before .before .next .ensures .comes
+      ap length (coming-next (c .before .before .before .before .before .before .before .before .before .before .before .next .ensures)
           (not-false _ (c .before .before .before .before .before .before .before .if1 .left))),
     )
 
@@ -77,7 +76,7 @@ loop-again : tie.Need-loop-again Inv-loop μ-loop
 loop-again c =
     let at = c .before .before .before .before .before .before .before .before .before .before .before .before .before .loop in
     let next = c .before .before .before .before .before .before .before .before .before .before .before .next in
-    let comes = next .ensures .comes (not-false _ (c .before .before .before .before .before .before .before .if1 .left)) in
+    let comes = coming-next (next .ensures) (not-false _ (c .before .before .before .before .before .before .before .if1 .left)) in
     let left = rw (comes, stretches-cons) at (at .inv .2) in (
       next .ensures .kept ∙ at .inv .0,
       c .before .before .before .put-line .kept .0 ∙ at .inv .1,

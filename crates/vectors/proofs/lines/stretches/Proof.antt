@@ -7,10 +7,10 @@ use Rattle.vectors.proofs.lines.stretches.Statement.{statement}
 use Rattle.vectors.proofs.lines.stretches.Tie as tie
 
 abbrev Inv-loop : tie.InvT-loop
-Inv-loop src scratch₀ place₀ found₀ check₀ turns₀ scratch place found check turns = length scratch ≡ length scratch₀
+Inv-loop src scratch₀ bookmark₀ found₀ check₀ turns₀ scratch bookmark found check turns = length scratch ≡ length scratch₀
 
 abbrev μ-loop : tie.MeasureT-loop
-μ-loop src scratch₀ place₀ found₀ check₀ turns₀ scratch place found check turns = 5001 - turns
+μ-loop src scratch₀ bookmark₀ found₀ check₀ turns₀ scratch bookmark found check turns = 5001 - turns
 
 begin-requires : tie.Need-begin-requires Inv-loop μ-loop
 begin-requires c κs = search needs
