@@ -1,4 +1,5 @@
 -- Reading numbers, lines and rows from the front of a text (document 01, 'The two programs'). Each definition says whether it is there, what it holds, and what follows.
+--   largestNumber          the largest number of an input
 --   isDigit c              c is a decimal digit
 --   goesOn v c             c is one more digit of a number whose value so far is v
 --   Numeral, Values        a number and what follows it; a list of numbers and what follows them
@@ -17,15 +18,18 @@ use mathlib.Core.List.{List, [], _∷_, _++_}
 use Prim.Native.Nat.{ℕ, zero, suc, _+_, _-_, _*_}
 use lib.Dec.{eqb, leb, ltb}
 use lib.ListN.{drop}
-use Rattle.answer.specs.Limits.{widest}
 use Rattle.text.specs.Lines.{tab, feed}
+
+-- 'Input numbers are 0 to 65,535'
+abbrev pub largestNumber : ℕ
+largestNumber = 65535
 
 abbrev pub isDigit : ℕ → Bool
 isDigit c = leb 48 c && leb c 57
 
 -- 'Numbers are decimal without leading zero': nothing goes on a 0. A number above 65,535 is out of every range, whatever follows.
 abbrev pub goesOn : ℕ → ℕ → Bool
-goesOn v c = ltb 0 v && (leb v widest && isDigit c)
+goesOn v c = ltb 0 v && (leb v largestNumber && isDigit c)
 
 pub record Numeral : Type 0 where
   pub found : Bool

@@ -10,11 +10,11 @@ ghost use Prim.Native.Nat.{ℕ, _+_, _*_, _≤_, _<_};
 ghost use lib.ListN.{length, getD, take, drop};
 ghost use Rattle.lists.specs.Stores.{front};
 ghost use Rattle.answer.specs.Rules.{answer};
-ghost use Rattle.text.specs.Inputs.{largest, ReadsInput};
+ghost use Rattle.text.specs.Inputs.{longestInput, ReadsInput};
 ghost use Rattle.text.specs.Steps.{numberRules, Headed, TestsRows, Tests};
 
 // The most bytes of an input.
-pub const LARGEST: usize = 65536;
+pub const LONGEST_INPUT: usize = 65536;
 
 // A frame that was read: the answer, and where it is done the direction number, the width and the height.
 pub struct Input {
@@ -60,10 +60,10 @@ fn tested_rows(
 
 // The rules for a text, with `room` bytes for the pixels. Direction, width, height and pixels go to the front of `values`.
 fn tested(text: &[u8], values: &mut [u16], room: usize) -> Answer
-    requires { ⌜ largest ≤ 2 * length (now values) ⌝ }
+    requires { ⌜ longestInput ≤ 2 * length (now values) ⌝ }
     ensures { λ r. ⌜ Tests (now (text .entry)) room (now (values .entry)) (now (values .exit)) r ⌝ }
 {
-    if LARGEST < text.len() {
+    if LONGEST_INPUT < text.len() {
         return Answer::refused(9, 0);
     }
     let head = read_head(text, values);

@@ -1,12 +1,13 @@
 // Reading numbers, lines and rows from a text. A value takes two bytes of text at least, so a buffer of half as many entries as the text has bytes holds them all.
-use answer::WIDEST;
 ghost use mathlib.Core.Path.{_≡_};
 ghost use Prim.Native.Nat.{_+_, _*_, _≤_, _<_};
 ghost use lib.ListN.{length, drop};
-ghost use Rattle.answer.specs.Limits.{widest};
-ghost use Rattle.text.specs.Reading.{isDigit, goesOn, numberOn, numberOf, starts, fieldOf, fieldsOf, lineOf, rowsOf};
+ghost use Rattle.text.specs.Reading.{largestNumber, isDigit, goesOn, numberOn, numberOf, starts, fieldOf, fieldsOf, lineOf, rowsOf};
 ghost use Rattle.text.specs.Inputs.{headOf};
 ghost use Rattle.text.specs.Steps.{noNumber, noMark, Reads, Room, Stores};
+
+// The largest number of an input.
+const LARGEST_NUMBER: usize = 65535;
 
 // A number that was read, and the place behind it.
 pub(crate) struct Number {
@@ -43,7 +44,7 @@ fn goes_on(value: usize, c: usize) -> bool
     if value == 0 {
         return false;
     }
-    if WIDEST < value {
+    if LARGEST_NUMBER < value {
         return false;
     }
     is_digit(c)
@@ -144,7 +145,7 @@ fn read_fields(
     from: usize,
     count: usize,
 ) -> Mark
-    requires { ⌜ Room (now text) at from (now values) × (most ≤ widest) ⌝ }
+    requires { ⌜ Room (now text) at from (now values) × (most ≤ largestNumber) ⌝ }
     ensures { λ r. ⌜ Stores (fieldsOf most count (drop at (now (text .entry)))) (now (text .entry)) at from (now (values .entry)) (now (values .exit)) r ⌝ }
 {
     let mut next = at;
@@ -171,7 +172,7 @@ fn read_line(
     from: usize,
     count: usize,
 ) -> Mark
-    requires { ⌜ Room (now text) at from (now values) × (most ≤ widest) ⌝ }
+    requires { ⌜ Room (now text) at from (now values) × (most ≤ largestNumber) ⌝ }
     ensures { λ r. ⌜ Stores (lineOf letter most count (drop at (now (text .entry)))) (now (text .entry)) at from (now (values .entry)) (now (values .exit)) r ⌝ }
 {
     if !is_at(text, at, letter) {
@@ -196,11 +197,11 @@ pub(crate) fn read_head(text: &[u8], values: &mut [u16]) -> Mark
     requires { ⌜ length (now text) ≤ 2 * length (now values) ⌝ }
     ensures { λ r. ⌜ Stores (headOf (now (text .entry))) (now (text .entry)) 0 0 (now (values .entry)) (now (values .exit)) r ⌝ }
 {
-    let first = read_line(text, 0, b'D', WIDEST, values, 0, 1);
+    let first = read_line(text, 0, b'D', LARGEST_NUMBER, values, 0, 1);
     if !first.found {
         return no_mark();
     }
-    read_line(text, first.next, b'F', WIDEST, values, 1, 2)
+    read_line(text, first.next, b'F', LARGEST_NUMBER, values, 1, 2)
 }
 
 // The rows from `at` to the text's end, their pixels stored behind direction, width and height.

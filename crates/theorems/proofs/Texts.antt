@@ -36,7 +36,7 @@ use Rattle.text.specs.declared.input.Input.{Input}
 use Rattle.text.specs.Decimal.{digits}
 use Rattle.text.specs.Lines.{fieldsText}
 use Rattle.text.specs.Reading.{Values}
-use Rattle.text.specs.Inputs.{largest, frameText, directionIn, widthIn, heightIn, rowsIn, headOf, inputRules, ReadsInput}
+use Rattle.text.specs.Inputs.{longestInput, frameText, directionIn, widthIn, heightIn, rowsIn, headOf, inputRules, ReadsInput}
 use Rattle.text.specs.Stretches.{lineReport, refusalText, isPrintable, PrintsLine}
 use Rattle.text.specs.Sums.{sumsText, WritesSums}
 use Rattle.text.proofs.Texts.{sums-example}
@@ -101,7 +101,7 @@ module _ {s dst dst′ : List ℕ} {r : Input} (p : ReadsInput s dst dst′ r) w
       let given : Given s (directionIn s) (widthIn s) (heightIn s) (rowsIn s .values) =
       record {
         is = accepted-text s (length dst) zero-is;
-        size = ltb-false largest (length s) (k .0);
+        size = ltb-false longestInput (length s) (k .0);
         numbered = ltb-false 15 (directionIn s) (k .1 .1 .1 .1 .0);
         wide = outside-not 1 longest (widthIn s) (k .1 .1 .0);
         high = outside-not 1 longest (heightIn s) (k .1 .1 .1 .0);
