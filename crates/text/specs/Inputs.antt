@@ -7,7 +7,7 @@
 --   rowsIn s               the rows that follow them
 --   inputRules s room      the rules of the call
 --   inputOf s room         what the call hands back
--- Laws: text/proofs/Inputs (frame-read, frame-written: `rowsIn` finds the rows of just the texts that are a frame's).
+-- Laws: text/proofs/Inputs (frame-read: a text in which `headOf` and `rowsIn` find lines and rows is a frame's; frame-written: in the text of a frame they do).
 use mathlib.Core.Path.{_≡_}
 use mathlib.Core.Bool.{cond, not}
 use mathlib.Core.List.{List, [], _∷_, _++_}

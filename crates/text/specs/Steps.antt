@@ -1,7 +1,7 @@
 -- What the private parts of reading keep to.
 --   noNumber, noMark           nothing was read
 --   Reads m s low r            r is the number m read from the text s, and the place behind it, which is low at least
---   Room s at from vs          the values from entry `from` on have room in vs: the text s read up to `at` has two bytes a value at least
+--   Room s at from vs          the text s is read up to `at`, which gave `from` values of two bytes at least; vs has an entry for every two bytes of s, so the others have room
 --   Stores m s at from vs vs′ r    the values m, read from s at `at`, stand in vs′ from entry `from` on, and r is the place behind them
 --   numberRules d w h          the rules for a direction number, a width and a height
 --   Headed s at w h vs         the first two lines of s are read, up to `at`, and break no rule; the rows have room in vs

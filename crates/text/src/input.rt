@@ -16,7 +16,7 @@ ghost use Rattle.text.specs.Steps.{numberRules, Headed, TestsRows, Tests
 // The most bytes of an input.
 pub const LONGEST_INPUT: usize = 65536;
 
-// A frame that was read: the answer, and where it is done the direction number, the width and the height.
+// A frame that was read: the answer; and the direction number, the width and the height, which are 0 on refusal.
 pub struct Input {
     pub answer: Answer,
     pub direction: usize,
@@ -79,7 +79,7 @@ fn tested(text: &[u8], values: &mut [u16], room: usize) -> Answer
     tested_rows(text, head.next, width, height, values, room)
 }
 
-// The n values from entry 3 on, each a byte, to the front of dst.
+// Copies the n values from entry 3 on, each of which fits a byte, to the front of dst.
 fn copy_pixels(values: &[u16], n: usize, dst: &mut [Pixel])
     requires { ⌜ (3 + n ≤ length (now values)) × (n ≤ length (now dst)) × ((k : ℕ) → k < n → getD (now values) (3 + k) 0 ≤ 255) ⌝ }
     ensures { λ _. ⌜ now (dst .exit) ≡ front (take n (drop 3 (now (values .entry)))) (now (dst .entry)) ⌝ }

@@ -9,7 +9,7 @@ ghost use Rattle.text.specs.Steps.{noNumber, noMark, Reads, Room, Stores
 // The largest number of an input.
 const LARGEST_NUMBER: usize = 65535;
 
-// A number that was read, and the place behind it.
+// Whether a number was read, its value, and the place behind it.
 pub(crate) struct Number {
     pub found: bool,
     pub value: usize,
@@ -37,7 +37,8 @@ fn is_digit(c: usize) -> bool
     c <= 57
 }
 
-// Whether c is one more digit of a number whose value so far is `value`.
+// Whether c is one more digit of a number whose value so far is `value`. A 0 takes none, so that no number has a leading zero;
+// nor does a number that is above every range already.
 fn goes_on(value: usize, c: usize) -> bool
     ensures { λ r. ⌜ r ≡ goesOn value c ⌝ }
 {
@@ -110,7 +111,7 @@ fn is_at(text: &[u8], at: usize, b: u8) -> bool
     text[at] == b
 }
 
-// The field at `at`, a number to `most`.
+// The field at `at`: a tab, and a number of at most `most`.
 fn read_field(text: &[u8], at: usize, most: usize) -> Number
     ensures { λ r. ⌜ Reads (fieldOf most (drop at (now (text .entry)))) (now (text .entry)) (at + 2) r ⌝ }
 {
@@ -136,7 +137,7 @@ fn no_mark() -> Mark
     }
 }
 
-// The `count` fields at `at`, each to `most`, stored from entry `from` on.
+// The `count` fields at `at`, each of at most `most`, their numbers stored from entry `from` on.
 fn read_fields(
     text: &[u8],
     at: usize,
@@ -162,7 +163,7 @@ fn read_fields(
     Mark { found: true, next }
 }
 
-// The line at `at`: its letter, `count` fields to `most`, and the line feed.
+// The line at `at`: its letter, `count` fields of at most `most`, and the line feed. The numbers are stored from entry `from` on.
 fn read_line(
     text: &[u8],
     at: usize,
@@ -192,7 +193,7 @@ fn read_line(
     }
 }
 
-// The first two lines of the text: direction number, width and height, to the front of `values`.
+// The first two lines of the text: direction number, width and height, stored at the front of `values`.
 pub(crate) fn read_head(text: &[u8], values: &mut [u16]) -> Mark
     requires { ⌜ length (now text) ≤ 2 * length (now values) ⌝ }
     ensures { λ r. ⌜ Stores (headOf (now (text .entry))) (now (text .entry)) 0 0 (now (values .entry)) (now (values .exit)) r ⌝ }
