@@ -17,11 +17,11 @@ use Rattle.text.proofs.stretches.put_stretches.Statement.{statement}
 use Rattle.text.proofs.stretches.put_stretches.Tie as tie
 
 abbrev Inv-loop : tie.InvT-loop
-Inv-loop dst₀ at line scratch₀ end₀ place₀ dst scratch end place =
-    (length scratch ≡ length scratch₀) × (length dst ≡ length dst₀) × Left dst₀ at (stretchesText (stretches line)) dst end (stretchesText (coming run8 line scratch place))
+Inv-loop dst₀ at line runs₀ end₀ place₀ dst runs end place =
+    (length runs ≡ length runs₀) × (length dst ≡ length dst₀) × Left dst₀ at (stretchesText (stretches line)) dst end (stretchesText (coming run8 line runs place))
 
 abbrev μ-loop : tie.MeasureT-loop
-μ-loop dst₀ at line scratch₀ end₀ place₀ dst scratch end place = length (coming run8 line scratch place)
+μ-loop dst₀ at line runs₀ end₀ place₀ dst runs end place = length (coming run8 line runs place)
 
 begin-requires : tie.Need-begin-requires Inv-loop μ-loop
 begin-requires c κs = search needs
@@ -30,7 +30,7 @@ loop-holds : tie.Need-loop-holds Inv-loop μ-loop
 loop-holds c =
     let args = c .before .before .before .before .args in
     let pre = c .before .before .before .before .pre in
-    (refl, refl, rw (c .begin .ensures, coming-beginning run8 (args .line .now) (args .scratch .now) (pre .0) (pre .1)) (left-start _ _ _))
+    (refl, refl, rw (c .begin .ensures, coming-beginning run8 (args .line .now) (args .runs .now) (pre .0) (pre .1)) (left-start _ _ _))
 
 next-requires : tie.Need-next-requires Inv-loop μ-loop
 next-requires c κs = search needs
@@ -46,8 +46,8 @@ returns c =
     let line = c .before .before .before .before .before .before .before .before .before .before .before .args .line .now in
     let at = c .before .before .before .before .before .before .loop in
     let next = c .before .before .before .before .next in
-    let none = coming-none run8 line (at .scratch) (at .place) _ (next .result) (next .ensures) (not-true _ (c .if1 .taken)) in
-    (left-end (rw (none, stretches-none) at (at .inv .2)) (puts-none (at .dst) (at .end)), next .ensures .kept ∙ at .inv .0)
+    let none = coming-none run8 line (at .runs) (at .place) _ (next .result) (next .ensures) (not-true _ (c .if1 .taken)) in
+    left-end (rw (none, stretches-none) at (at .inv .2)) (puts-none (at .dst) (at .end))
 
 stretch-fields-requires : tie.Need-stretch-fields-requires Inv-loop μ-loop
 stretch-fields-requires c κs = search needs
