@@ -1,4 +1,4 @@
--- What is printed of a line.
+-- What is printed of a line and of a refusal.
 --   signed-below, signed-above   a line number below 0, and one that is not
 --   title-put, title-length, title-most    the parts of the `L` line, put one behind the other; how long it is; title-room, title-ends: they have room
 --   title-below, title-above               how long it is beside a line with both numbers
@@ -6,13 +6,14 @@
 --   stretches-length, stretches-most       how long they are
 --   report-put, report-length, report-fits the `L` line and the `Z` lines; how long they are; 64 bytes, and 86 a pixel, are room for them; report-some: there are some
 --   printable, too-long, no-room           a line of at most 4,096 pixels whose text has room; one with more pixels; one whose text has no room
+--   refusal-is, refusal-length   the text of a refusal; how long it is
 --   puts-as                      the same text by another name
 --   prints-done, prints-none     a text put at the front, or none
 --   line-example                 document 01's example of the program stretches
 -- Assumes nothing.
 use mathlib.Core.Path.{_≡_, refl, ap, _∙_}
 use mathlib.Core.Bool.{Bool, true, false, cond}
-use mathlib.Core.List.{List, [], _∷_, _++_}
+use mathlib.Core.List.{List, [], _∷_, _++_, append-nil}
 use mathlib.Core.Logic.{⊎-elim}
 use Prim.Native.Nat.{ℕ, _+_, _*_, _≤_, _<_, zero-le}
 use native.Mathlib.Omega.{arith}
@@ -29,7 +30,7 @@ use Rattle.bright.specs.Stretches as bright
 use Rattle.bright.proofs.Counting.{stretches-few}
 use Rattle.text.specs.Decimal.{digits, decimal}
 use Rattle.text.specs.Lines.{tab, feed, fieldsText, lineText, Puts}
-use Rattle.text.specs.Stretches.{signedText, titleText, stretchFields, stretchesText, lineReport, isPrintable, Prints}
+use Rattle.text.specs.Stretches.{signedText, titleText, stretchFields, stretchesText, lineReport, refusalText, isPrintable, Prints}
 use Rattle.text.proofs.Decimals.{decimal-most}
 use Rattle.text.proofs.Runs.{puts-join, puts-length, fields-most}
 use Rattle.text.proofs.Texts.{put-front}
@@ -130,6 +131,13 @@ module _ (z : ℤ) (f : List ℕ) where
 
     pub no-room : room < length (lineReport z f) → isPrintable z f room ≡ false
     no-room small = ⊎-elim too-long (λ short. simp (le-leb (length f) longest short, lt-leb _ _ small)) (less-or-not longest (length f))
+
+pub refusal-is : (n : ℕ) → refusalText n ≡ 69 ∷ tab ∷ (decimal n ++ (feed ∷ []))
+unfolding fieldsText
+refusal-is n = ap (λ (l : List ℕ). 69 ∷ tab ∷ (l ++ (feed ∷ []))) (append-nil (decimal n))
+
+pub refusal-length : (n : ℕ) → length (refusalText n) ≡ 3 + length (decimal n)
+refusal-length n = omega (arith, ap length (refusal-is n), length-append (decimal n) (feed ∷ []))
 
 pub puts-as : {d t t′ d′ : List ℕ} {at r : ℕ} → Puts d at t d′ r → t′ ≡ t → Puts d at t′ d′ r
 puts-as {d} {t} {t′} {d′} {at} {r} p e = rw e p

@@ -1,7 +1,7 @@
 -- The two programs' texts: what the calls of the crate `text` write and read, from their contracts alone.
 --   sums-text-is                         what a done `sums_text` leaves at the front of a destination, and its bytes
 --   line-text-is, line-text-none         what `line_text` writes of a line, and that it changes nothing where it does not; line-text-room: room enough for it
---   refusal-nine                         what is printed of a refusal
+--   refusal-text-is, refusal-text-none   the same of `refusal_text` and a refusal's number; refusal-nine: of number 9
 --   input-given, given-input             `read_input` with room for the pixels takes just the inputs that the document allows, and hands back the frame whose
 --                                        text they are: reading inverts the rendering
 --   example-sums-text, example-sums      the example of the program sums, byte for byte: of its sums, and from its input to its output
@@ -16,7 +16,7 @@ use Prim.Native.Nat.{ℕ, zero, suc, _+_, _-_, _*_, _≤_, _<_}
 use native.Mathlib.Omega.{arith}
 use lib.IntN.{ℤ, pos}
 use lib.ListN.{length, getD, take, drop}
-use borrow.Author.Tests.{ltb-false, not-false}
+use borrow.Author.Tests.{ltb-false, not-false, lt-leb, le-leb}
 use Rattle.lists.specs.Tables as tables
 use Rattle.lists.specs.Extremes as extremes
 use Rattle.lists.specs.Stores.{front}
@@ -34,14 +34,14 @@ use Rattle.gathering.specs.Gathering.{Gathers}
 use Rattle.sizes.specs.Sums.{frameSums}
 use Rattle.sizes.specs.Frame.{SumsFrame}
 use Rattle.text.specs.declared.input.Input.{Input}
-use Rattle.text.specs.Decimal.{digits}
+use Rattle.text.specs.Decimal.{digits, decimal}
 use Rattle.text.specs.Lines.{fieldsText}
 use Rattle.text.specs.Reading.{Values}
 use Rattle.text.specs.Inputs.{longestInput, frameText, directionIn, widthIn, heightIn, rowsIn, headOf, inputRules, ReadsInput}
-use Rattle.text.specs.Stretches.{lineReport, refusalText, PrintsLine}
+use Rattle.text.specs.Stretches.{lineReport, refusalText, PrintsLine, PrintsRefusal}
 use Rattle.text.specs.Sums.{sumsText, WritesSums}
 use Rattle.text.proofs.Texts.{sums-example}
-use Rattle.text.proofs.Reports.{report-fits, report-some, printable, too-long, no-room, line-example}
+use Rattle.text.proofs.Reports.{report-fits, report-some, printable, too-long, no-room, refusal-is, refusal-length, line-example}
 use Rattle.text.proofs.Frames.{rows-below, rows-many}
 use Rattle.text.proofs.Inputs.{input-example, head-found, frame-written, accepted-text, text-accepted}
 use Rattle.theorems.specs.Marked.{line}
@@ -90,7 +90,18 @@ example-line-text {dst} p fit =
     let t = line-text-is p (omega arith) (rw line-example fit) in
     (t .0 ∙ ap (λ (t : List ℕ). front t dst) line-example, t .1 ∙ ap length line-example)
 
--- 'A refusal prints `E` and the number only.'
+module _ {k : ℕ} {dst dst′ : List ℕ} {n : ℕ} (p : PrintsRefusal k dst dst′ n) where
+  -- 'A refusal prints `E` and the number only': `E` is 69, a tab 9, a line feed 10
+  pub refusal-text-is : 3 + length (decimal k) ≤ length dst → (dst′ ≡ front (69 ∷ 9 ∷ (decimal k ++ (10 ∷ []))) dst) × (n ≡ 3 + length (decimal k))
+  refusal-text-is fit =
+      let ok = le-leb (length (refusalText k)) (length dst) (omega (arith, refusal-length k)) in
+      (p .text .written ∙ rw ok (ap (λ (t : List ℕ). front t dst) (refusal-is k)), p .text .bytes ∙ rw ok (refusal-length k))
+
+  pub refusal-text-none : length dst < 3 + length (decimal k) → (n ≡ 0) × (dst′ ≡ dst)
+  refusal-text-none small =
+      let not = lt-leb (length (refusalText k)) (length dst) (omega (arith, refusal-length k)) in
+      (p .text .bytes ∙ rw not, p .text .written ∙ rw not)
+
 pub refusal-nine : refusalText 9 ≡ 69 ∷ 9 ∷ 57 ∷ 10 ∷ []
 unfolding fieldsText digits
 refusal-nine = refl
