@@ -8,7 +8,7 @@ ghost use Rattle.answer.specs.Limits.{longest, steepest};
 ghost use Rattle.frame.specs.Direction.{opposite, dir};
 ghost use Rattle.frame.specs.Span.{Indexed};
 
-// The size of a number, without its sign. The smallest number's negation would not fit: one less than it does.
+// The size of a number, without its sign. The smallest number has no negation that fits, so 1 is added before the sign is turned and again after.
 pub(crate) fn size(z: i64) -> usize
     ensures { λ n. ⌜ n ≡ natAbs z ⌝ }
 {

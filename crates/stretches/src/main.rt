@@ -7,10 +7,8 @@ use libc::STDOUT_FILENO;
 // The most pixels of an input: each takes two bytes of its 65,536.
 const PIXELS: usize = 32768;
 
-// The most bytes of a line's text, and of what it needs of scratch.
+// The bytes that the text of every line has room in: 64, and 86 for each of 4,096 pixels.
 const REPORT: usize = 352320;
-
-const SCRATCH: usize = 16384;
 
 // Writes the first n bytes of a text that has them.
 fn show(out: &[u8], n: usize) {
@@ -29,8 +27,7 @@ fn refuse(number: u32) {
 // Prints one line: its number, its pixel count and its stretches.
 fn print_line(number: i64, line: &[u8]) {
     let mut out = [0u8; REPORT];
-    let mut scratch = [0u8; SCRATCH];
-    let n = text::line_text(number, line, &mut out, &mut scratch);
+    let n = text::line_text(number, line, &mut out);
     show(&out, n);
 }
 

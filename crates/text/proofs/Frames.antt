@@ -22,14 +22,14 @@ use lib.Seq.{sets, drop-at, take-at, length-sets, getD-append-add}
 use borrow.Author.Tests.{lt-ltb, le-ltb, ltb-false, not-false}
 use Rattle.lists.proofs.Cases.{both-left}
 use Rattle.answer.specs.declared.Answer.{Answer}
-use Rattle.answer.specs.Limits.{longest, widest}
+use Rattle.answer.specs.Limits.{longest}
 use Rattle.answer.specs.Rules.{rule, answer, done, refusal, checked, by-number, outside}
 use Rattle.answer.proofs.Rules.{kept, answer-chain}
 use Rattle.text.specs.declared.input.Input.{Input}
 use Rattle.text.specs.declared.reading.Mark.{Mark}
 use Rattle.text.specs.Lines.{feed}
-use Rattle.text.specs.Reading.{Values, valued, noValues, before, starts, fieldOf, fieldsOf, ended, lineOf, rowsOf}
-use Rattle.text.specs.Inputs.{largest, headOf, directionIn, widthIn, heightIn, rowsIn, inputRules, inputOf}
+use Rattle.text.specs.Reading.{largestNumber, Values, valued, noValues, before, starts, fieldOf, fieldsOf, ended, lineOf, rowsOf}
+use Rattle.text.specs.Inputs.{longestInput, headOf, directionIn, widthIn, heightIn, rowsIn, inputRules, inputOf}
 use Rattle.text.specs.Steps.{Stores, numberRules, Headed, TestsRows, Tests}
 use Rattle.text.proofs.Runs.{sets-join, sets-front}
 use Rattle.text.proofs.Readings.{field-bound}
@@ -109,7 +109,7 @@ many-head false xs r m c e = absurd (false≢true e)
 pub head-many : (s : List ℕ) → headOf s .found ≡ true → length (headOf s .values) ≡ 3
 unfolding headOf
 head-many s e =
-    many-head (lineOf 68 widest 1 s .found) (lineOf 68 widest 1 s .values) (lineOf 70 widest 2 (lineOf 68 widest 1 s .rest)) (line-many 68 widest 1 s) (line-many 70 widest 2 (lineOf 68 widest 1 s .rest)) e
+    many-head (lineOf 68 largestNumber 1 s .found) (lineOf 68 largestNumber 1 s .values) (lineOf 70 largestNumber 2 (lineOf 68 largestNumber 1 s .rest)) (line-many 68 largestNumber 1 s) (line-many 70 largestNumber 2 (lineOf 68 largestNumber 1 s .rest)) e
 
 -- a value stored from the first entry on
 pub stored-value : (vs xs : List ℕ) (k : ℕ) → length xs ≤ length vs → k < length xs → getD (sets vs 0 xs) k 0 ≡ getD xs k 0
@@ -123,10 +123,10 @@ head-values s vs vs′ r first f fit k h =
 -- ---- the answer
 
 module _ (s : List ℕ) (room : ℕ) where
-  pub refused-size : largest < length s → answer (inputRules s room) 0 ≡ refusal 9 0
+  pub refused-size : longestInput < length s → answer (inputRules s room) 0 ≡ refusal 9 0
   refused-size h = simp (lt-ltb _ _ h)
 
-  module _ (size : length s ≤ largest) where
+  module _ (size : length s ≤ longestInput) where
     pub refused-head : headOf s .found ≡ false → answer (inputRules s room) 0 ≡ refusal 9 0
     refused-head e = simp (le-ltb _ _ size, e)
 
@@ -148,8 +148,8 @@ pub tests-refused : (s : List ℕ) (room : ℕ) (vs vs′ : List ℕ) (a : Answe
 tests-refused s room vs vs′ a ne q = record { answers = sym q; stored = λ z. absurd (ne z); fits = λ z. absurd (ne z) }
 
 -- the first two lines, where no rule for their numbers is broken
-pub headed : (s vs vs₁ : List ℕ) (head : Mark) (d w h : ℕ) (a : Answer) → Stores (headOf s) s 0 0 vs vs₁ head → head .found ≡ true → length s ≤ largest
-    → largest ≤ 2 * length vs → d ≡ directionIn s → w ≡ widthIn s → h ≡ heightIn s → a ≡ answer (numberRules d w h) 0 → a .number ≡ 0 → Headed s (head .next) w h vs₁
+pub headed : (s vs vs₁ : List ℕ) (head : Mark) (d w h : ℕ) (a : Answer) → Stores (headOf s) s 0 0 vs vs₁ head → head .found ≡ true → length s ≤ longestInput
+    → longestInput ≤ 2 * length vs → d ≡ directionIn s → w ≡ widthIn s → h ≡ heightIn s → a ≡ answer (numberRules d w h) 0 → a .number ≡ 0 → Headed s (head .next) w h vs₁
 headed s vs vs₁ head d w h a first f size large d-is w-is h-is e z =
     let there = sym (first .found) ∙ f in
     let k = kept (numberRules d w h) 0 refl (rw e at z) in
@@ -185,7 +185,7 @@ module _ {s : List ℕ} {at w h : ℕ} {vs vs′ : List ℕ} {r : Mark} (head : 
       there : a .number ≡ 0 → r .found ≡ true
       there z = read .found ∙ not-false (rowsIn s .found) (kept (inputRules s room) 0 refl (rw answers at z) .1 .1 .1 .1 .1 .0)
 
-pub tests-rows : (s : List ℕ) (room : ℕ) (vs vs₁ vs₂ : List ℕ) (head : Mark) (a : Answer) → Stores (headOf s) s 0 0 vs vs₁ head → head .found ≡ true → length s ≤ largest
+pub tests-rows : (s : List ℕ) (room : ℕ) (vs vs₁ vs₂ : List ℕ) (head : Mark) (a : Answer) → Stores (headOf s) s 0 0 vs vs₁ head → head .found ≡ true → length s ≤ longestInput
     → TestsRows s room (head .next) vs₁ vs₂ a → Tests s room vs vs₂ a
 tests-rows s room vs vs₁ vs₂ head a first f size rows =
     let three = head-many s (sym (first .found) ∙ f) in
@@ -197,7 +197,7 @@ tests-rows s room vs vs₁ vs₂ head a first f size rows =
 
 -- ---- an input that is not refused
 
-module _ (s : List ℕ) (room : ℕ) (vs vs′ : List ℕ) (a : Answer) (tests : Tests s room vs vs′ a) (z : a .number ≡ 0) (large : largest ≤ 2 * length vs) where
+module _ (s : List ℕ) (room : ℕ) (vs vs′ : List ℕ) (a : Answer) (tests : Tests s room vs vs′ a) (z : a .number ≡ 0) (large : longestInput ≤ 2 * length vs) where
   pub input-fits : (headOf s .found ≡ true) × (rowsIn s .found ≡ true) × (widthIn s * heightIn s ≤ room)
   input-fits =
       let k = kept (inputRules s room) 0 refl (rw (tests .answers) at z) in
@@ -216,7 +216,7 @@ module _ (s : List ℕ) (room : ℕ) (vs vs′ : List ℕ) (a : Answer) (tests :
       let three = head-many s (input-fits .0) in
       rw whole (List·getD-append (headOf s .values) (rowsIn s .values ++ drop (length (headOf s .values ++ rowsIn s .values)) vs) 0 k (omega (arith, three)))
 
-  pub input-small : widthIn s * heightIn s < largest
+  pub input-small : widthIn s * heightIn s < longestInput
   input-small = omega (arith, tests .fits z, length-append (headOf s .values) (rowsIn s .values), head-many s (input-fits .0), input-many)
 
   pub input-room : 3 + widthIn s * heightIn s ≤ length vs′

@@ -15,12 +15,11 @@ use Prim.Native.Nat.{ℕ, zero, suc, _+_, _-_, _*_, _≤_, _<_}
 use native.Mathlib.Omega.{arith}
 use lib.ListN.{length, drop, length-append}
 use lib.Seq.{sets}
-use Rattle.answer.specs.Limits.{widest}
 use Rattle.lists.proofs.Cases.{both-left}
 use Rattle.text.specs.declared.reading.Number.{Number}
 use Rattle.text.specs.declared.reading.Mark.{Mark}
 use Rattle.text.specs.Lines.{feed}
-use Rattle.text.specs.Reading.{Values, valued, noValues, before, starts, fieldOf, fieldsOf, ended, lineOf, rowsOf}
+use Rattle.text.specs.Reading.{largestNumber, Values, valued, noValues, before, starts, fieldOf, fieldsOf, ended, lineOf, rowsOf}
 use Rattle.text.specs.Inputs.{headOf}
 use Rattle.text.specs.Steps.{noMark, Reads, Stores}
 use Rattle.text.proofs.Runs.{sets-more, sets-join}
@@ -148,21 +147,21 @@ line-many b most n s e = many-letter n (starts b s) (fieldsOf most n (drop 1 s))
 
 -- ---- the first two lines
 
-module _ (s vs vs′ : List ℕ) (r : Mark) (first : Stores (lineOf 68 widest 1 s) s 0 0 vs vs′ r) where
+module _ (s vs vs′ : List ℕ) (r : Mark) (first : Stores (lineOf 68 largestNumber 1 s) s 0 0 vs vs′ r) where
   pub head-broken : r .found ≡ false → headOf s .found ≡ false
   unfolding headOf
   head-broken f = simp (sym (first .found) ∙ f)
 
-  both-lines : r .found ≡ true → headOf s ≡ before (lineOf 68 widest 1 s .values) (lineOf 70 widest 2 (drop (r .next) s))
+  both-lines : r .found ≡ true → headOf s ≡ before (lineOf 68 largestNumber 1 s .values) (lineOf 70 largestNumber 2 (drop (r .next) s))
   unfolding headOf
   both-lines f = rw (first .rest f) (simp (sym (first .found) ∙ f))
 
-  pub head-read : {vs″ : List ℕ} {r′ : Mark} → r .found ≡ true → Stores (lineOf 70 widest 2 (drop (r .next) s)) s (r .next) 1 vs′ vs″ r′ → Stores (headOf s) s 0 0 vs vs″ r′
+  pub head-read : {vs″ : List ℕ} {r′ : Mark} → r .found ≡ true → Stores (lineOf 70 largestNumber 2 (drop (r .next) s)) s (r .next) 1 vs′ vs″ r′ → Stores (headOf s) s 0 0 vs vs″ r′
   head-read {vs″} {r′} f second =
-      let d = lineOf 68 widest 1 s .values in
-      let e = lineOf 70 widest 2 (drop (r .next) s) .values in
+      let d = lineOf 68 largestNumber 1 s .values in
+      let e = lineOf 70 largestNumber 2 (drop (r .next) s) .values in
       let w = both-lines f in
-      let one = line-many 68 widest 1 s (sym (first .found) ∙ f) in
+      let one = line-many 68 largestNumber 1 s (sym (first .found) ∙ f) in
       let values = ap (λ (m : Values). m .values) w in
       record {
         found = second .found ∙ sym (ap (λ (m : Values). m .found) w);

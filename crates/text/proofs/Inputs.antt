@@ -17,7 +17,7 @@ use lib.Dec.{ltb, leb, eqb}
 use lib.ListN.{length, getD, take, drop, take-append-drop, length-drop}
 use lib.Seq.{take-at, drop-at, length-take-le}
 use borrow.Author.Tests.{lt-ltb, le-ltb, le-leb, eqb-true, eq-eqb, not-false}
-use Rattle.answer.specs.Limits.{longest, widest}
+use Rattle.answer.specs.Limits.{longest}
 use Rattle.answer.specs.Rules.{answer, done, outside}
 use Rattle.answer.proofs.Rules.{kept, outside-not}
 use Rattle.lists.specs.Members.{All}
@@ -25,8 +25,8 @@ use Rattle.lists.proofs.Cases.{less-or-not, both, both-left, both-right}
 use Rattle.lists.proofs.Members.{all-take, all-drop}
 use Rattle.text.specs.Decimal.{digits, decimal}
 use Rattle.text.specs.Lines.{tab, feed, fieldsText, lineText}
-use Rattle.text.specs.Reading.{isDigit, goesOn, Numeral, numeral, noNumeral, numberOn, numberOf, starts, atMost, fieldOf, Values, valued, noValues, before, fieldsOf, ended, lineOf, rowsOf}
-use Rattle.text.specs.Inputs.{largest, rowsText, frameText, headOf, directionIn, widthIn, heightIn, rowsIn, inputRules}
+use Rattle.text.specs.Reading.{largestNumber, isDigit, goesOn, Numeral, numeral, noNumeral, numberOn, numberOf, starts, atMost, fieldOf, Values, valued, noValues, before, fieldsOf, ended, lineOf, rowsOf}
+use Rattle.text.specs.Inputs.{longestInput, rowsText, frameText, headOf, directionIn, widthIn, heightIn, rowsIn, inputRules}
 use Rattle.text.proofs.Decimals.{decimal-one, decimal-more}
 use Rattle.text.proofs.Readings.{digit-facts, goes-facts}
 use Rattle.text.proofs.Goings.{line-many}
@@ -34,7 +34,7 @@ use Rattle.text.proofs.Goings.{line-many}
 -- ---- numbers
 
 -- one digit more
-digit-more : (v c : ℕ) → 0 < v → v ≤ widest → 48 ≤ c → c ≤ 57 → decimal (10 * v + (c - 48)) ≡ decimal v ++ (c ∷ [])
+digit-more : (v c : ℕ) → 0 < v → v ≤ largestNumber → 48 ≤ c → c ≤ 57 → decimal (10 * v + (c - 48)) ≡ decimal v ++ (c ∷ [])
 digit-more v c some small low high =
     let n = 10 * v + (c - 48) in
     let front : (10 * v + (c - 48)) / 10 ≡ v = omega arith in
@@ -76,23 +76,23 @@ found-one n t l =
     let same : 48 + n - 48 ≡ n = omega arith in
     ap (λ (l : List ℕ). numberOf (l ++ t)) (decimal-one n l) ∙ simp (digit, same)
 
-on-more : (n : ℕ) (t : List ℕ) → 10 ≤ n → n ≤ widest → numberOn (n / 10) ((48 + n % 10) ∷ t) ≡ numberOn n t
+on-more : (n : ℕ) (t : List ℕ) → 10 ≤ n → n ≤ largestNumber → numberOn (n / 10) ((48 + n % 10) ∷ t) ≡ numberOn n t
 unfolding numberOn
 on-more n t some small =
     let digit : isDigit (48 + n % 10) ≡ true = both (leb 48 (48 + n % 10)) (leb (48 + n % 10) 57) (le-leb 48 (48 + n % 10) (omega arith)) (le-leb (48 + n % 10) 57 (omega arith)) in
     let goes : goesOn (n / 10) (48 + n % 10) ≡ true =
-    both (ltb 0 (n / 10)) (leb (n / 10) widest && isDigit (48 + n % 10)) (lt-ltb 0 (n / 10) (omega arith)) (both (leb (n / 10) widest) (isDigit (48 + n % 10)) (le-leb (n / 10) widest (omega arith)) digit) in
+    both (ltb 0 (n / 10)) (leb (n / 10) largestNumber && isDigit (48 + n % 10)) (lt-ltb 0 (n / 10) (omega arith)) (both (leb (n / 10) largestNumber) (isDigit (48 + n % 10)) (le-leb (n / 10) largestNumber (omega arith)) digit) in
     let same : 10 * (n / 10) + (48 + n % 10 - 48) ≡ n = omega arith in
     rw goes (ap (λ (m : ℕ). numberOn m t) same)
 
-found-more : (n : ℕ) (t : List ℕ) → 10 ≤ n → n ≤ widest → numberOf (decimal (n / 10) ++ ((48 + n % 10) ∷ t)) ≡ numberOn (n / 10) ((48 + n % 10) ∷ t) → numberOf (decimal n ++ t) ≡ numberOn n t
+found-more : (n : ℕ) (t : List ℕ) → 10 ≤ n → n ≤ largestNumber → numberOf (decimal (n / 10) ++ ((48 + n % 10) ∷ t)) ≡ numberOn (n / 10) ((48 + n % 10) ∷ t) → numberOf (decimal n ++ t) ≡ numberOn n t
 found-more n t some small h =
     ap (λ (l : List ℕ). numberOf (l ++ t)) (decimal-more n some (omega arith))
     ∙ ap numberOf (append-assoc (decimal (n / 10)) ((48 + n % 10) ∷ []) t)
     ∙ h
     ∙ on-more n t some small
 
-found-below : (k n : ℕ) (t : List ℕ) → n ≤ k → n ≤ widest → numberOf (decimal n ++ t) ≡ numberOn n t
+found-below : (k n : ℕ) (t : List ℕ) → n ≤ k → n ≤ largestNumber → numberOf (decimal n ++ t) ≡ numberOn n t
 found-below zero n t below small = found-one n t (omega arith)
 found-below (suc k) n t below small =
     ⊎-elim (λ l. found-one n t l)
@@ -105,14 +105,14 @@ Stops t = (v : ℕ) → numberOn v t ≡ numeral v t
 
 stops : (v c : ℕ) (t : List ℕ) → isDigit c ≡ false → numberOn v (c ∷ t) ≡ numeral v (c ∷ t)
 unfolding numberOn
-stops v c t e = go (ltb 0 v) (leb v widest)
+stops v c t e = go (ltb 0 v) (leb v largestNumber)
   where
     go : (a b : Bool) → cond (a && (b && isDigit c)) (numberOn (10 * v + (c - 48)) t) (numeral v (c ∷ t)) ≡ numeral v (c ∷ t)
     go true true = rw e
     go true false = refl
     go false b = refl
 
-pub number-found : (n : ℕ) (t : List ℕ) → n ≤ widest → Stops t → numberOf (decimal n ++ t) ≡ numeral n t
+pub number-found : (n : ℕ) (t : List ℕ) → n ≤ largestNumber → Stops t → numberOf (decimal n ++ t) ≡ numeral n t
 number-found n t small stop = found-below n n t (omega arith) small ∙ stop n
 
 -- ---- fields
@@ -132,7 +132,7 @@ field-sound most (c ∷ s) e = go (eqb c tab) refl e
     go true q f = ap₂ (λ (d : ℕ) (l : List ℕ). d ∷ l) (eqb-true c tab q) (kept (numberOf s) (number-sound s) (numberOf s .found && leb (numberOf s .value) most) refl f)
     go false q f = absurd (false≢true f)
 
-pub field-found : (most n : ℕ) (t : List ℕ) → n ≤ most → most ≤ widest → Stops t → fieldOf most ((tab ∷ decimal n) ++ t) ≡ numeral n t
+pub field-found : (most n : ℕ) (t : List ℕ) → n ≤ most → most ≤ largestNumber → Stops t → fieldOf most ((tab ∷ decimal n) ++ t) ≡ numeral n t
 unfolding fieldOf
 field-found most n t small range stop = rw (number-found n t (omega arith) stop) (simp (le-leb n most small))
 
@@ -160,7 +160,7 @@ unfolding fieldsText
 field-stops [] t = λ v. stops v feed t refl
 field-stops (x ∷ vs) t = λ v. stops v tab (decimal x ++ fieldsText vs ++ (feed ∷ t)) refl
 
-pub fields-found : (most : ℕ) (vs t : List ℕ) → most ≤ widest → Within most vs → fieldsOf most (length vs) (fieldsText vs ++ (feed ∷ t)) ≡ valued vs (feed ∷ t)
+pub fields-found : (most : ℕ) (vs t : List ℕ) → most ≤ largestNumber → Within most vs → fieldsOf most (length vs) (fieldsText vs ++ (feed ∷ t)) ≡ valued vs (feed ∷ t)
 unfolding fieldsOf fieldsText All
 fields-found most [] t range w = refl
 fields-found most (v ∷ vs) t range w =
@@ -194,7 +194,7 @@ line-sound b most n (c ∷ s) e = go (eqb c b) refl e
         (kept (fieldsOf most n s) (fields-sound most n s) (fieldsOf most n s .found && starts feed (fieldsOf most n s .rest)) refl f)
     go false q f = absurd (false≢true f)
 
-pub line-found : (b most : ℕ) (vs t : List ℕ) → most ≤ widest → Within most vs → lineOf b most (length vs) (lineText b vs ++ t) ≡ valued vs t
+pub line-found : (b most : ℕ) (vs t : List ℕ) → most ≤ largestNumber → Within most vs → lineOf b most (length vs) (lineText b vs ++ t) ≡ valued vs t
 unfolding lineOf
 line-found b most vs t range w =
     let same : (fieldsText vs ++ (feed ∷ [])) ++ t ≡ fieldsText vs ++ (feed ∷ t) = append-assoc (fieldsText vs) (feed ∷ []) t in
@@ -248,33 +248,33 @@ three-parts s t u ps (x ∷ []) (y ∷ (z ∷ (y′ ∷ ys))) a b p q r = absurd
 
 pub frame-read : (s : List ℕ) → headOf s .found ≡ true → rowsIn s .found ≡ true → s ≡ frameText (directionIn s) (widthIn s) (heightIn s) (rowsIn s .values)
 unfolding headOf
-frame-read s = go (lineOf 68 widest 1 s .found) refl
+frame-read s = go (lineOf 68 largestNumber 1 s .found) refl
   where
-    go : (b : Bool) → lineOf 68 widest 1 s .found ≡ b
-        → cond b (before (lineOf 68 widest 1 s .values) (lineOf 70 widest 2 (lineOf 68 widest 1 s .rest))) noValues .found ≡ true
-        → rowsOf (getD (cond b (before (lineOf 68 widest 1 s .values) (lineOf 70 widest 2 (lineOf 68 widest 1 s .rest))) noValues .values) 2 0)
-        (getD (cond b (before (lineOf 68 widest 1 s .values) (lineOf 70 widest 2 (lineOf 68 widest 1 s .rest))) noValues .values) 1 0)
-        (cond b (before (lineOf 68 widest 1 s .values) (lineOf 70 widest 2 (lineOf 68 widest 1 s .rest))) noValues .rest) .found ≡ true
+    go : (b : Bool) → lineOf 68 largestNumber 1 s .found ≡ b
+        → cond b (before (lineOf 68 largestNumber 1 s .values) (lineOf 70 largestNumber 2 (lineOf 68 largestNumber 1 s .rest))) noValues .found ≡ true
+        → rowsOf (getD (cond b (before (lineOf 68 largestNumber 1 s .values) (lineOf 70 largestNumber 2 (lineOf 68 largestNumber 1 s .rest))) noValues .values) 2 0)
+        (getD (cond b (before (lineOf 68 largestNumber 1 s .values) (lineOf 70 largestNumber 2 (lineOf 68 largestNumber 1 s .rest))) noValues .values) 1 0)
+        (cond b (before (lineOf 68 largestNumber 1 s .values) (lineOf 70 largestNumber 2 (lineOf 68 largestNumber 1 s .rest))) noValues .rest) .found ≡ true
         → s ≡ frameText
-        (getD (cond b (before (lineOf 68 widest 1 s .values) (lineOf 70 widest 2 (lineOf 68 widest 1 s .rest))) noValues .values) 0 0)
-        (getD (cond b (before (lineOf 68 widest 1 s .values) (lineOf 70 widest 2 (lineOf 68 widest 1 s .rest))) noValues .values) 1 0)
-        (getD (cond b (before (lineOf 68 widest 1 s .values) (lineOf 70 widest 2 (lineOf 68 widest 1 s .rest))) noValues .values) 2 0)
-        (rowsOf (getD (cond b (before (lineOf 68 widest 1 s .values) (lineOf 70 widest 2 (lineOf 68 widest 1 s .rest))) noValues .values) 2 0)
-        (getD (cond b (before (lineOf 68 widest 1 s .values) (lineOf 70 widest 2 (lineOf 68 widest 1 s .rest))) noValues .values) 1 0)
-        (cond b (before (lineOf 68 widest 1 s .values) (lineOf 70 widest 2 (lineOf 68 widest 1 s .rest))) noValues .rest) .values)
+        (getD (cond b (before (lineOf 68 largestNumber 1 s .values) (lineOf 70 largestNumber 2 (lineOf 68 largestNumber 1 s .rest))) noValues .values) 0 0)
+        (getD (cond b (before (lineOf 68 largestNumber 1 s .values) (lineOf 70 largestNumber 2 (lineOf 68 largestNumber 1 s .rest))) noValues .values) 1 0)
+        (getD (cond b (before (lineOf 68 largestNumber 1 s .values) (lineOf 70 largestNumber 2 (lineOf 68 largestNumber 1 s .rest))) noValues .values) 2 0)
+        (rowsOf (getD (cond b (before (lineOf 68 largestNumber 1 s .values) (lineOf 70 largestNumber 2 (lineOf 68 largestNumber 1 s .rest))) noValues .values) 2 0)
+        (getD (cond b (before (lineOf 68 largestNumber 1 s .values) (lineOf 70 largestNumber 2 (lineOf 68 largestNumber 1 s .rest))) noValues .values) 1 0)
+        (cond b (before (lineOf 68 largestNumber 1 s .values) (lineOf 70 largestNumber 2 (lineOf 68 largestNumber 1 s .rest))) noValues .rest) .values)
     go true q f g =
-        let t = lineOf 68 widest 1 s .rest in
-        let second = lineOf 70 widest 2 t in
-        three-parts s t (second .rest) _ (lineOf 68 widest 1 s .values) (second .values)
-        (line-many 68 widest 1 s q) (line-many 70 widest 2 t f) (line-sound 68 widest 1 s q) (line-sound 70 widest 2 t f) (rows-sound _ _ (second .rest) g)
+        let t = lineOf 68 largestNumber 1 s .rest in
+        let second = lineOf 70 largestNumber 2 t in
+        three-parts s t (second .rest) _ (lineOf 68 largestNumber 1 s .values) (second .values)
+        (line-many 68 largestNumber 1 s q) (line-many 70 largestNumber 2 t f) (line-sound 68 largestNumber 1 s q) (line-sound 70 largestNumber 2 t f) (rows-sound _ _ (second .rest) g)
     go false q f g = absurd (false≢true f)
 
-module _ (d w h : ℕ) (ps : List ℕ) (numbered : d ≤ widest) (wide : w ≤ widest) (high : h ≤ widest) where
+module _ (d w h : ℕ) (ps : List ℕ) (numbered : d ≤ largestNumber) (wide : w ≤ largestNumber) (high : h ≤ largestNumber) where
   pub head-found : headOf (frameText d w h ps) ≡ valued (d ∷ w ∷ h ∷ []) (rowsText h w ps)
   unfolding headOf frameText All
   head-found =
-      let second = line-found 70 widest (w ∷ h ∷ []) (rowsText h w ps) (le-refl widest) (wide, (high, tt)) in
-      let first = line-found 68 widest (d ∷ []) (lineText 70 (w ∷ h ∷ []) ++ rowsText h w ps) (le-refl widest) (numbered, tt) in
+      let second = line-found 70 largestNumber (w ∷ h ∷ []) (rowsText h w ps) (le-refl largestNumber) (wide, (high, tt)) in
+      let first = line-found 68 largestNumber (d ∷ []) (lineText 70 (w ∷ h ∷ []) ++ rowsText h w ps) (le-refl largestNumber) (numbered, tt) in
       rw (first, second)
 
   pub frame-written : length ps ≡ h * w → Within 255 ps → rowsIn (frameText d w h ps) ≡ valued ps []
@@ -290,7 +290,7 @@ accepted-text s room z =
 
 -- the text of a frame whose numbers are in their ranges is refused by no rule
 pub text-accepted : (d w h : ℕ) (ps : List ℕ) (room : ℕ) → d ≤ 15 → outside 1 longest w ≡ false → outside 1 longest h ≡ false → length ps ≡ h * w → Within 255 ps
-    → length (frameText d w h ps) ≤ largest → w * h ≤ room → answer (inputRules (frameText d w h ps) room) 0 ≡ done 0
+    → length (frameText d w h ps) ≤ longestInput → w * h ≤ room → answer (inputRules (frameText d w h ps) room) 0 ≡ done 0
 text-accepted d w h ps room numbered wide high many dim size fit =
     let width = outside-not 1 longest w wide in
     let height = outside-not 1 longest h high in

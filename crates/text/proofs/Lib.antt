@@ -6,7 +6,7 @@
 --   Goings      reading values one after the other: fields, lines and rows
 --   Frames      reading an input, rule by rule
 --   Inputs      what is read is there as text, and what is there as text is read
---   Reports     what is printed of a line
+--   Reports     what is printed of a line and of a refusal
 pub mod Decimals
 pub mod Runs
 pub mod Texts

@@ -20,11 +20,10 @@ use lib.Dec.{ltb, leb, eqb}
 use lib.ListN.{length, getD, drop}
 use lib.Seq.{drop-cons, drop-nil, drop-drop}
 use borrow.Author.Tests.{ltb-true, leb-true, le-leb, lt-leb}
-use Rattle.answer.specs.Limits.{widest}
 use Rattle.lists.proofs.Cases.{less-or-not, both-left, both-right}
 use Rattle.text.specs.declared.reading.Number.{Number}
 use Rattle.text.specs.Lines.{tab}
-use Rattle.text.specs.Reading.{isDigit, goesOn, Numeral, numeral, noNumeral, numberOn, numberOf, starts, atMost, fieldOf}
+use Rattle.text.specs.Reading.{largestNumber, isDigit, goesOn, Numeral, numeral, noNumeral, numberOn, numberOf, starts, atMost, fieldOf}
 use Rattle.text.specs.Steps.{noNumber, Reads}
 
 pub drop-past : (s : List ℕ) (n : ℕ) → length s ≤ n → drop n s ≡ []
@@ -41,11 +40,11 @@ behind-one s at = drop-drop 1 at s
 pub digit-facts : (c : ℕ) → isDigit c ≡ true → (48 ≤ c) × (c ≤ 57)
 digit-facts c e = (leb-true 48 c (both-left (leb 48 c) (leb c 57) e), leb-true c 57 (both-right (leb 48 c) (leb c 57) e))
 
-pub goes-facts : (v c : ℕ) → goesOn v c ≡ true → (0 < v) × (v ≤ widest) × (48 ≤ c) × (c ≤ 57)
+pub goes-facts : (v c : ℕ) → goesOn v c ≡ true → (0 < v) × (v ≤ largestNumber) × (48 ≤ c) × (c ≤ 57)
 goes-facts v c e =
-    let more = both-right (ltb 0 v) (leb v widest && isDigit c) e in
-    let digit = digit-facts c (both-right (leb v widest) (isDigit c) more) in
-    (ltb-true 0 v (both-left (ltb 0 v) (leb v widest && isDigit c) e), leb-true v widest (both-left (leb v widest) (isDigit c) more), digit .0, digit .1)
+    let more = both-right (ltb 0 v) (leb v largestNumber && isDigit c) e in
+    let digit = digit-facts c (both-right (leb v largestNumber) (isDigit c) more) in
+    (ltb-true 0 v (both-left (ltb 0 v) (leb v largestNumber && isDigit c) e), leb-true v largestNumber (both-left (leb v largestNumber) (isDigit c) more), digit .0, digit .1)
 
 -- ---- numbers
 

@@ -1,33 +1,36 @@
--- What is printed of a line.
+-- What is printed of a line and of a refusal.
 --   signed-below, signed-above   a line number below 0, and one that is not
 --   title-put, title-length, title-most    the parts of the `L` line, put one behind the other; how long it is; title-room, title-ends: they have room
+--   title-below, title-above               how long it is beside a line with both numbers
 --   stretches-cons, stretches-none         the `Z` lines, with the first apart; none
---   report-put, report-length, report-fits the `L` line and the `Z` lines; how long they are; they have room
+--   stretches-length, stretches-most       how long they are
+--   report-put, report-length, report-fits the `L` line and the `Z` lines; how long they are; 64 bytes, and 86 a pixel, are room for them; report-some: there are some
+--   printable, too-long, no-room           a line of at most 4,096 pixels whose text has room; one with more pixels; one whose text has no room
+--   refusal-is, refusal-length   the text of a refusal; how long it is
 --   puts-as                      the same text by another name
 --   prints-done, prints-none     a text put at the front, or none
---   printable                    what the test of a line says
 --   line-example                 document 01's example of the program stretches
 -- Assumes nothing.
-use mathlib.Core.Path.{_≡_, refl, _∙_}
-use mathlib.Core.Bool.{Bool, true, false, cond, _&&_}
-use mathlib.Core.List.{List, [], _∷_, _++_}
+use mathlib.Core.Path.{_≡_, refl, ap, _∙_}
+use mathlib.Core.Bool.{Bool, true, false, cond}
+use mathlib.Core.List.{List, [], _∷_, _++_, append-nil}
+use mathlib.Core.Logic.{⊎-elim}
 use Prim.Native.Nat.{ℕ, _+_, _*_, _≤_, _<_, zero-le}
 use native.Mathlib.Omega.{arith}
-use lib.Dec.{leb}
 use lib.IntN.{ℤ, pos, natAbs}
 use lib.ListN.{length, length-append}
 use lib.Signed.{ltZ}
-use borrow.Author.Tests.{leb-true}
+use borrow.Author.Tests.{lt-leb, le-leb}
 use Rattle.lists.specs.Tables as tables
 use Rattle.lists.specs.Extremes as extremes
-use Rattle.lists.proofs.Cases.{both-left, both-right}
+use Rattle.lists.proofs.Cases.{less-or-not}
 use Rattle.answer.specs.Limits.{longest}
 use Rattle.bright.specs.declared.Stretch.{Stretch}
 use Rattle.bright.specs.Stretches as bright
 use Rattle.bright.proofs.Counting.{stretches-few}
 use Rattle.text.specs.Decimal.{digits, decimal}
 use Rattle.text.specs.Lines.{tab, feed, fieldsText, lineText, Puts}
-use Rattle.text.specs.Stretches.{signedText, titleText, stretchFields, stretchesText, lineReport, isPrintable, Prints}
+use Rattle.text.specs.Stretches.{signedText, titleText, stretchFields, stretchesText, lineReport, refusalText, isPrintable, Prints}
 use Rattle.text.proofs.Decimals.{decimal-most}
 use Rattle.text.proofs.Runs.{puts-join, puts-length, fields-most}
 use Rattle.text.proofs.Texts.{put-front}
@@ -67,6 +70,23 @@ module _ (z : ℤ) (n : ℕ) where
   unfolding titleText
   title-put p q r s = puts-join p (puts-join q (puts-join r s))
 
+pair-length : (m n : ℕ) → length (lineText 0 (m ∷ n ∷ [])) ≡ 4 + length (decimal m) + length (decimal n)
+unfolding fieldsText
+pair-length m n =
+    omega (
+      arith,
+      length-append (fieldsText (m ∷ n ∷ [])) (feed ∷ []),
+      length-append (tab ∷ decimal m) (fieldsText (n ∷ [])),
+      length-append (tab ∷ decimal n) [],
+    )
+
+module _ (z : ℤ) (n m : ℕ) (size : m ≡ natAbs z) where
+  pub title-below : ltZ z (pos 0) ≡ true → length (titleText z n) ≡ length (lineText 0 (m ∷ n ∷ [])) + 1
+  title-below e = omega (arith, title-length z n, ap length (signed-below z m size e), pair-length m n)
+
+  pub title-above : ltZ z (pos 0) ≡ false → length (titleText z n) ≡ length (lineText 0 (m ∷ n ∷ []))
+  title-above e = omega (arith, title-length z n, ap length (signed-above z m size e), pair-length m n)
+
 stretch-most : (ss : List Stretch) → length (stretchesText ss) ≤ 86 * length ss
 unfolding stretchesText
 stretch-most [] = zero-le
@@ -81,6 +101,12 @@ pub stretches-none : stretchesText [] ≡ []
 unfolding stretchesText
 stretches-none = refl
 
+pub stretches-length : (s : Stretch) (ss : List Stretch) → length (stretchesText (s ∷ ss)) ≡ length (lineText 90 (stretchFields s)) + length (stretchesText ss)
+stretches-length s ss = ap length (stretches-cons s ss) ∙ length-append (lineText 90 (stretchFields s)) (stretchesText ss)
+
+pub stretches-most : (f : List ℕ) → length (stretchesText (bright.stretches f)) ≤ 86 * length f
+stretches-most f = omega (arith, stretch-most (bright.stretches f), stretches-few f)
+
 module _ (z : ℤ) (f : List ℕ) where
   pub report-length : length (lineReport z f) ≡ length (titleText z (length f)) + length (stretchesText (bright.stretches f))
   unfolding lineReport
@@ -91,7 +117,27 @@ module _ (z : ℤ) (f : List ℕ) where
   report-put p q = puts-join p q
 
   pub report-fits : length (lineReport z f) ≤ 64 + 86 * length f
-  report-fits = omega (arith, report-length, title-most z (length f), stretch-most (bright.stretches f), stretches-few f)
+  report-fits = omega (arith, report-length, title-most z (length f), stretches-most f)
+
+  pub report-some : 0 < length (lineReport z f)
+  report-some = omega (arith, report-length, title-length z (length f))
+
+  module _ (room : ℕ) where
+    pub printable : length f ≤ longest → length (lineReport z f) ≤ room → isPrintable z f room ≡ true
+    printable short fit = simp (le-leb _ _ short, le-leb _ _ fit)
+
+    pub too-long : longest < length f → isPrintable z f room ≡ false
+    too-long long = simp (lt-leb _ _ long)
+
+    pub no-room : room < length (lineReport z f) → isPrintable z f room ≡ false
+    no-room small = ⊎-elim too-long (λ short. simp (le-leb (length f) longest short, lt-leb _ _ small)) (less-or-not longest (length f))
+
+pub refusal-is : (n : ℕ) → refusalText n ≡ 69 ∷ tab ∷ (decimal n ++ (feed ∷ []))
+unfolding fieldsText
+refusal-is n = ap (λ (l : List ℕ). 69 ∷ tab ∷ (l ++ (feed ∷ []))) (append-nil (decimal n))
+
+pub refusal-length : (n : ℕ) → length (refusalText n) ≡ 3 + length (decimal n)
+refusal-length n = omega (arith, ap length (refusal-is n), length-append (decimal n) (feed ∷ []))
 
 pub puts-as : {d t t′ d′ : List ℕ} {at r : ℕ} → Puts d at t d′ r → t′ ≡ t → Puts d at t′ d′ r
 puts-as {d} {t} {t′} {d′} {at} {r} p e = rw e p
@@ -101,11 +147,6 @@ prints-done {ok} {t} {dst} {dst′} {r} e p fit = rw e (record { bytes = omega (
 
 pub prints-none : {ok : Bool} (t dst : List ℕ) → ok ≡ false → Prints ok t dst dst 0
 prints-none t dst e = rw e (record { bytes = refl; written = refl })
-
-pub printable : (n spare room : ℕ) → isPrintable n spare room ≡ true → (n ≤ longest) × (4 * n ≤ spare) × (64 + 86 * n ≤ room)
-printable n spare room e =
-    let more = both-right (leb n longest) (leb (4 * n) spare && leb (64 + 86 * n) room) e in
-    (leb-true n longest (both-left (leb n longest) (leb (4 * n) spare && leb (64 + 86 * n) room) e), leb-true (4 * n) spare (both-left (leb (4 * n) spare) (leb (64 + 86 * n) room) more), leb-true (64 + 86 * n) room (both-right (leb (4 * n) spare) (leb (64 + 86 * n) room) more))
 
 -- 'it prints' L 0 5, Z 1 3 5 3, Z 0 3 3 2, Z 4 5 4 2, Z 0 5 2 0
 pub line-example : lineReport (pos 0) (3 ∷ 5 ∷ 5 ∷ 2 ∷ 4 ∷ []) ≡

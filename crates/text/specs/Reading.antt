@@ -1,11 +1,13 @@
--- Reading numbers, lines and rows from the front of a text (document 01, 'The two programs'). Each definition says whether it is there, what it holds, and what follows.
+-- Reading numbers, lines and rows from the front of a text (document 01, 'The two programs'). Each reading says whether what it looks for is there, what it holds, and what follows it.
+--   largestNumber          the largest number of an input
 --   isDigit c              c is a decimal digit
 --   goesOn v c             c is one more digit of a number whose value so far is v
 --   Numeral, Values        a number and what follows it; a list of numbers and what follows them
---   numberOn v s           the number whose value so far is v, and goes on at s
+--   numeral, valued        such a one that is there; noNumeral, noValues: one that is not
+--   numberOn v s           the number whose value so far is v, and which goes on at s
 --   numberOf s             the number at the front of s
 --   starts b s             s starts with the byte b
---   fieldOf most s         a tab, and a number to `most`
+--   fieldOf most s         a tab, and a number of at most `most`
 --   fieldsOf most n s      n fields
 --   lineOf b most n s      a line: the letter b, n fields and the line feed
 --   rowsOf h w s           h lines of w pixels, and nothing after them
@@ -17,15 +19,18 @@ use mathlib.Core.List.{List, [], _∷_, _++_}
 use Prim.Native.Nat.{ℕ, zero, suc, _+_, _-_, _*_}
 use lib.Dec.{eqb, leb, ltb}
 use lib.ListN.{drop}
-use Rattle.answer.specs.Limits.{widest}
 use Rattle.text.specs.Lines.{tab, feed}
+
+-- 'Input numbers are 0 to 65,535'
+abbrev pub largestNumber : ℕ
+largestNumber = 65535
 
 abbrev pub isDigit : ℕ → Bool
 isDigit c = leb 48 c && leb c 57
 
 -- 'Numbers are decimal without leading zero': nothing goes on a 0. A number above 65,535 is out of every range, whatever follows.
 abbrev pub goesOn : ℕ → ℕ → Bool
-goesOn v c = ltb 0 v && (leb v widest && isDigit c)
+goesOn v c = ltb 0 v && (leb v largestNumber && isDigit c)
 
 pub record Numeral : Type 0 where
   pub found : Bool

@@ -1,7 +1,7 @@
 -- What the private parts of reading keep to.
 --   noNumber, noMark           nothing was read
 --   Reads m s low r            r is the number m read from the text s, and the place behind it, which is low at least
---   Room s at from vs          the values from entry `from` on have room in vs: the text s read up to `at` has two bytes a value at least
+--   Room s at from vs          the text s is read up to `at`, which gave `from` values of two bytes at least; vs has an entry for every two bytes of s, so the others have room
 --   Stores m s at from vs vs′ r    the values m, read from s at `at`, stand in vs′ from entry `from` on, and r is the place behind them
 --   numberRules d w h          the rules for a direction number, a width and a height
 --   Headed s at w h vs         the first two lines of s are read, up to `at`, and break no rule; the rows have room in vs
@@ -20,7 +20,7 @@ use Rattle.answer.specs.Rules.{Rule, rule, answer, outside}
 use Rattle.text.specs.declared.reading.Number.{Number}
 use Rattle.text.specs.declared.reading.Mark.{Mark}
 use Rattle.text.specs.Reading.{Numeral, Values}
-use Rattle.text.specs.Inputs.{largest, headOf, directionIn, widthIn, heightIn, rowsIn, inputRules}
+use Rattle.text.specs.Inputs.{longestInput, headOf, directionIn, widthIn, heightIn, rowsIn, inputRules}
 
 abbrev pub noNumber : Number
 noNumber = record { found = false; value = 0; next = 0 }
@@ -51,7 +51,7 @@ abbrev pub numberRules : ℕ → ℕ → ℕ → List Rule
 numberRules d w h = rule (outside 1 longest w) 1 0 ∷ rule (outside 1 longest h) 1 0 ∷ rule (ltb 15 d) 2 0 ∷ []
 
 pub record Headed (s : List ℕ) (at w h : ℕ) (vs : List ℕ) : Type 0 where
-  pub size : length s ≤ largest
+  pub size : length s ≤ longestInput
   pub found : headOf s .found ≡ true
   pub width : w ≡ widthIn s
   pub height : h ≡ heightIn s
@@ -69,4 +69,4 @@ pub record TestsRows (s : List ℕ) (room at : ℕ) (vs vs′ : List ℕ) (a : A
 pub record Tests (s : List ℕ) (room : ℕ) (vs vs′ : List ℕ) (a : Answer) : Type 0 where
   pub answers : a ≡ answer (inputRules s room) 0
   pub stored : a .number ≡ 0 → vs′ ≡ sets vs 0 (headOf s .values ++ rowsIn s .values)
-  pub fits : a .number ≡ 0 → 2 * length (headOf s .values ++ rowsIn s .values) ≤ largest
+  pub fits : a .number ≡ 0 → 2 * length (headOf s .values ++ rowsIn s .values) ≤ longestInput

@@ -5,13 +5,14 @@
 --   stretchesText ss       the `Z` lines of the stretches ss
 --   lineReport z f         the text of the line z, whose pixels are f
 --   refusalText n          the text of the refusal n
---   isPrintable n spare room    a line of n pixels, spare bytes of scratch and room bytes of destination that the call takes
---   Prints ok t dst dst′ r      the text t stands at the front of dst′ and r is how long it is, where ok holds; else nothing does
+--   isPrintable z f room   the line z, whose pixels are f, has at most 4,096, and its text has room in `room` bytes
+--   Prints ok t dst dst′ r      where ok holds, the text t stands at the front of dst′ and r is how many bytes it has; else r is 0 and nothing changes
+--   PrintsLine z f dst dst′ r, PrintsRefusal n dst dst′ r    that of the line z, and of the refusal n
 -- Laws: text/proofs/Reports.
 use mathlib.Core.Path.{_≡_}
-use mathlib.Core.Bool.{Bool, false, cond, _&&_}
+use mathlib.Core.Bool.{Bool, cond, _&&_}
 use mathlib.Core.List.{List, [], _∷_, _++_}
-use Prim.Native.Nat.{ℕ, _+_, _*_}
+use Prim.Native.Nat.{ℕ}
 use lib.Dec.{leb}
 use lib.IntN.{ℤ, pos, natAbs}
 use lib.ListN.{length}
@@ -46,16 +47,16 @@ lineReport z f = titleText z (length f) ++ stretchesText (stretches f)
 abbrev pub refusalText : ℕ → List ℕ
 refusalText n = lineText 69 (n ∷ [])
 
--- a line has no more stretches than pixels, and no `Z` line has more than 86 bytes
-abbrev pub isPrintable : ℕ → ℕ → ℕ → Bool
-isPrintable n spare room = leb n longest && (leb (4 * n) spare && leb (64 + 86 * n) room)
+-- a line of at most 4,096 pixels, whose text has room
+abbrev pub isPrintable : ℤ → List ℕ → ℕ → Bool
+isPrintable z f room = leb (length f) longest && leb (length (lineReport z f)) room
 
 pub record Prints (ok : Bool) (t dst dst′ : List ℕ) (r : ℕ) : Type 0 where
   pub bytes : r ≡ cond ok (length t) 0
   pub written : dst′ ≡ cond ok (front t dst) dst
 
--- What scratch holds after a line is printed is left open, its length apart.
-pub record PrintsLine (z : ℤ) (f dst dst′ scratch scratch′ : List ℕ) (r : ℕ) : Type 0 where
-  pub text : Prints (isPrintable (length f) (length scratch) (length dst)) (lineReport z f) dst dst′ r
-  pub scratch-kept : isPrintable (length f) (length scratch) (length dst) ≡ false → scratch′ ≡ scratch
-  pub scratch-length : length scratch′ ≡ length scratch
+pub record PrintsLine (z : ℤ) (f dst dst′ : List ℕ) (r : ℕ) : Type 0 where
+  pub text : Prints (isPrintable z f (length dst)) (lineReport z f) dst dst′ r
+
+pub record PrintsRefusal (n : ℕ) (dst dst′ : List ℕ) (r : ℕ) : Type 0 where
+  pub text : Prints (leb (length (refusalText n)) (length dst)) (refusalText n) dst dst′ r

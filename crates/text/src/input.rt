@@ -10,13 +10,13 @@ ghost use Prim.Native.Nat.{ℕ, _+_, _*_, _≤_, _<_};
 ghost use lib.ListN.{length, getD, take, drop};
 ghost use Rattle.lists.specs.Stores.{front};
 ghost use Rattle.answer.specs.Rules.{answer};
-ghost use Rattle.text.specs.Inputs.{largest, ReadsInput};
+ghost use Rattle.text.specs.Inputs.{longestInput, ReadsInput};
 ghost use Rattle.text.specs.Steps.{numberRules, Headed, TestsRows, Tests};
 
 // The most bytes of an input.
-pub const LARGEST: usize = 65536;
+pub const LONGEST_INPUT: usize = 65536;
 
-// A frame that was read: the answer, and where it is done the direction number, the width and the height.
+// A frame that was read: the answer; and the direction number, the width and the height, which are 0 on refusal.
 pub struct Input {
     pub answer: Answer,
     pub direction: usize,
@@ -60,10 +60,10 @@ fn tested_rows(
 
 // The rules for a text, with `room` bytes for the pixels. Direction, width, height and pixels go to the front of `values`.
 fn tested(text: &[u8], values: &mut [u16], room: usize) -> Answer
-    requires { ⌜ largest ≤ 2 * length (now values) ⌝ }
+    requires { ⌜ longestInput ≤ 2 * length (now values) ⌝ }
     ensures { λ r. ⌜ Tests (now (text .entry)) room (now (values .entry)) (now (values .exit)) r ⌝ }
 {
-    if LARGEST < text.len() {
+    if LONGEST_INPUT < text.len() {
         return Answer::refused(9, 0);
     }
     let head = read_head(text, values);
@@ -79,7 +79,7 @@ fn tested(text: &[u8], values: &mut [u16], room: usize) -> Answer
     tested_rows(text, head.next, width, height, values, room)
 }
 
-// The n values from entry 3 on, each a byte, to the front of dst.
+// Copies the n values from entry 3 on, each of which fits a byte, to the front of dst.
 fn copy_pixels(values: &[u16], n: usize, dst: &mut [Pixel])
     requires { ⌜ (3 + n ≤ length (now values)) × (n ≤ length (now dst)) × ((k : ℕ) → k < n → getD (now values) (3 + k) 0 ≤ 255) ⌝ }
     ensures { λ _. ⌜ now (dst .exit) ≡ front (take n (drop 3 (now (values .entry)))) (now (dst .entry)) ⌝ }

@@ -7,7 +7,7 @@ mod stretches;
 mod sums;
 
 pub use input::Input;
-pub use input::LARGEST;
+pub use input::LONGEST_INPUT;
 pub use input::read_input;
 pub use stretches::line_text;
 pub use stretches::refusal_text;

@@ -1,14 +1,15 @@
 // Reading numbers, lines and rows from a text. A value takes two bytes of text at least, so a buffer of half as many entries as the text has bytes holds them all.
-use answer::WIDEST;
 ghost use mathlib.Core.Path.{_≡_};
 ghost use Prim.Native.Nat.{_+_, _*_, _≤_, _<_};
 ghost use lib.ListN.{length, drop};
-ghost use Rattle.answer.specs.Limits.{widest};
-ghost use Rattle.text.specs.Reading.{isDigit, goesOn, numberOn, numberOf, starts, fieldOf, fieldsOf, lineOf, rowsOf};
+ghost use Rattle.text.specs.Reading.{largestNumber, isDigit, goesOn, numberOn, numberOf, starts, fieldOf, fieldsOf, lineOf, rowsOf};
 ghost use Rattle.text.specs.Inputs.{headOf};
 ghost use Rattle.text.specs.Steps.{noNumber, noMark, Reads, Room, Stores};
 
-// A number that was read, and the place behind it.
+// The largest number of an input.
+const LARGEST_NUMBER: usize = 65535;
+
+// Whether a number was read, its value, and the place behind it.
 pub(crate) struct Number {
     pub found: bool,
     pub value: usize,
@@ -36,14 +37,15 @@ fn is_digit(c: usize) -> bool
     c <= 57
 }
 
-// Whether c is one more digit of a number whose value so far is `value`.
+// Whether c is one more digit of a number whose value so far is `value`. A 0 takes none, so that no number has a leading zero;
+// nor does a number that is above every range already.
 fn goes_on(value: usize, c: usize) -> bool
     ensures { λ r. ⌜ r ≡ goesOn value c ⌝ }
 {
     if value == 0 {
         return false;
     }
-    if WIDEST < value {
+    if LARGEST_NUMBER < value {
         return false;
     }
     is_digit(c)
@@ -109,7 +111,7 @@ fn is_at(text: &[u8], at: usize, b: u8) -> bool
     text[at] == b
 }
 
-// The field at `at`, a number to `most`.
+// The field at `at`: a tab, and a number of at most `most`.
 fn read_field(text: &[u8], at: usize, most: usize) -> Number
     ensures { λ r. ⌜ Reads (fieldOf most (drop at (now (text .entry)))) (now (text .entry)) (at + 2) r ⌝ }
 {
@@ -135,7 +137,7 @@ fn no_mark() -> Mark
     }
 }
 
-// The `count` fields at `at`, each to `most`, stored from entry `from` on.
+// The `count` fields at `at`, each of at most `most`, their numbers stored from entry `from` on.
 fn read_fields(
     text: &[u8],
     at: usize,
@@ -144,7 +146,7 @@ fn read_fields(
     from: usize,
     count: usize,
 ) -> Mark
-    requires { ⌜ Room (now text) at from (now values) × (most ≤ widest) ⌝ }
+    requires { ⌜ Room (now text) at from (now values) × (most ≤ largestNumber) ⌝ }
     ensures { λ r. ⌜ Stores (fieldsOf most count (drop at (now (text .entry)))) (now (text .entry)) at from (now (values .entry)) (now (values .exit)) r ⌝ }
 {
     let mut next = at;
@@ -161,7 +163,7 @@ fn read_fields(
     Mark { found: true, next }
 }
 
-// The line at `at`: its letter, `count` fields to `most`, and the line feed.
+// The line at `at`: its letter, `count` fields of at most `most`, and the line feed. The numbers are stored from entry `from` on.
 fn read_line(
     text: &[u8],
     at: usize,
@@ -171,7 +173,7 @@ fn read_line(
     from: usize,
     count: usize,
 ) -> Mark
-    requires { ⌜ Room (now text) at from (now values) × (most ≤ widest) ⌝ }
+    requires { ⌜ Room (now text) at from (now values) × (most ≤ largestNumber) ⌝ }
     ensures { λ r. ⌜ Stores (lineOf letter most count (drop at (now (text .entry)))) (now (text .entry)) at from (now (values .entry)) (now (values .exit)) r ⌝ }
 {
     if !is_at(text, at, letter) {
@@ -191,16 +193,16 @@ fn read_line(
     }
 }
 
-// The first two lines of the text: direction number, width and height, to the front of `values`.
+// The first two lines of the text: direction number, width and height, stored at the front of `values`.
 pub(crate) fn read_head(text: &[u8], values: &mut [u16]) -> Mark
     requires { ⌜ length (now text) ≤ 2 * length (now values) ⌝ }
     ensures { λ r. ⌜ Stores (headOf (now (text .entry))) (now (text .entry)) 0 0 (now (values .entry)) (now (values .exit)) r ⌝ }
 {
-    let first = read_line(text, 0, b'D', WIDEST, values, 0, 1);
+    let first = read_line(text, 0, b'D', LARGEST_NUMBER, values, 0, 1);
     if !first.found {
         return no_mark();
     }
-    read_line(text, first.next, b'F', WIDEST, values, 1, 2)
+    read_line(text, first.next, b'F', LARGEST_NUMBER, values, 1, 2)
 }
 
 // The rows from `at` to the text's end, their pixels stored behind direction, width and height.

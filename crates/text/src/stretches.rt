@@ -11,15 +11,17 @@ use stretch::begin;
 use stretch::next;
 ghost use mathlib.Core.Path.{_≡_};
 ghost use Prim.Native.Nat.{_+_, _*_, _≤_, _<_, _^_};
-ghost use lib.Dec.{leb};
 ghost use lib.IntN.{natAbs};
 ghost use lib.ListN.{length};
 ghost use Rattle.answer.specs.Limits.{longest};
 ghost use Rattle.bright.specs.Stretches.{stretches};
 ghost use Rattle.text.specs.Lines.{Puts};
-ghost use Rattle.text.specs.Stretches.{signedText, titleText, stretchFields, stretchesText, refusalText, isPrintable, Prints, PrintsLine};
+ghost use Rattle.text.specs.Stretches.{signedText, titleText, stretchFields, stretchesText, PrintsLine, PrintsRefusal};
 
-// The size of a number, without its sign. The smallest number's negation would not fit: one less than it does.
+// The bytes of the open runs of a reading: four a pixel of the longest line.
+const RUNS: usize = 4 * LONGEST;
+
+// The size of a number, without its sign. The smallest number has no negation that fits, so 1 is added before the sign is turned and again after.
 fn size(z: i64) -> u64
     ensures { λ n. ⌜ n ≡ natAbs z ⌝ }
 {
@@ -54,6 +56,18 @@ fn put_title(dst: &mut [u8], z: i64, pixels: usize) -> usize
     put_byte(dst, end, b'\n')
 }
 
+// The bytes of the `L` line: those of a line with both numbers, and one for a minus sign.
+fn title_bytes(z: i64, pixels: usize) -> usize
+    ensures { λ r. ⌜ r ≡ length (titleText z pixels) ⌝ }
+{
+    let fields = [size(z), pixels as u64];
+    let bytes = line_bytes(&fields);
+    if z < 0 {
+        return bytes + 1;
+    }
+    bytes
+}
+
 fn wide(x: u16) -> u64
     ensures { λ r. ⌜ (r ≡ x) × (r < 2 ^ 16) ⌝ }
 {
@@ -66,15 +80,33 @@ fn stretch_fields(s: Stretch) -> [u64; 4]
     [wide(s.start), wide(s.end), wide(s.level), wide(s.base)]
 }
 
-// Writes the `Z` lines of a line at `at`. Hands back where the next byte goes.
-fn put_stretches(dst: &mut [u8], at: usize, line: &[Pixel], scratch: &mut [u8]) -> usize
-    requires { ⌜ (length (now line) ≤ longest) × (4 * length (now line) ≤ length (now scratch)) × (at + length (stretchesText (stretches (now line))) ≤ length (now dst)) ⌝ }
-    ensures { λ r. ⌜ Puts (now (dst .entry)) at (stretchesText (stretches (now (line .entry)))) (now (dst .exit)) r × (length (now (scratch .exit)) ≡ length (now (scratch .entry))) ⌝ }
+// The bytes of the `Z` lines of a line. The reading has its open runs in `runs`.
+fn stretches_bytes(line: &[Pixel], runs: &mut [u8]) -> usize
+    requires { ⌜ (length (now line) ≤ longest) × (4 * length (now line) ≤ length (now runs)) ⌝ }
+    ensures { λ r. ⌜ r ≡ length (stretchesText (stretches (now (line .entry)))) ⌝ }
+{
+    let mut bytes: usize = 0;
+    let mut bookmark = begin();
+    loop {
+        let step = next(line, runs, bookmark);
+        if !step.found {
+            return bytes;
+        }
+        let fields = stretch_fields(step.stretch);
+        bytes += line_bytes(&fields);
+        bookmark = step.bookmark;
+    }
+}
+
+// Writes the `Z` lines of a line at `at`. Hands back where the next byte goes. The reading has its open runs in `runs`.
+fn put_stretches(dst: &mut [u8], at: usize, line: &[Pixel], runs: &mut [u8]) -> usize
+    requires { ⌜ (length (now line) ≤ longest) × (4 * length (now line) ≤ length (now runs)) × (at + length (stretchesText (stretches (now line))) ≤ length (now dst)) ⌝ }
+    ensures { λ r. ⌜ Puts (now (dst .entry)) at (stretchesText (stretches (now (line .entry)))) (now (dst .exit)) r ⌝ }
 {
     let mut end = at;
     let mut bookmark = begin();
     loop {
-        let step = next(line, scratch, bookmark);
+        let step = next(line, runs, bookmark);
         if !step.found {
             return end;
         }
@@ -84,35 +116,28 @@ fn put_stretches(dst: &mut [u8], at: usize, line: &[Pixel], scratch: &mut [u8]) 
     }
 }
 
-// Whether a line of n pixels can be printed with `spare` bytes of scratch and `room` bytes of destination.
-fn is_printable(n: usize, spare: usize, room: usize) -> bool
-    ensures { λ r. ⌜ r ≡ isPrintable n spare room ⌝ }
-{
-    if LONGEST < n {
-        return false;
-    }
-    if spare < 4 * n {
-        return false;
-    }
-    64 + 86 * n <= room
-}
-
 // Writes what the program stretches prints of the line number z, its `L` line and its `Z` lines, to the front of dst. Hands back its bytes.
-// Where the line is longer than 4,096 pixels, the scratch shorter than 4 bytes a pixel, or the destination shorter than 64 bytes and 86 a pixel,
-// it hands back 0 and changes nothing.
-pub fn line_text(z: i64, line: &[Pixel], dst: &mut [u8], scratch: &mut [u8]) -> usize
-    ensures { λ r. ⌜ PrintsLine z (now (line .entry)) (now (dst .entry)) (now (dst .exit)) (now (scratch .entry)) (now (scratch .exit)) r ⌝ }
+// Where the line has more than 4,096 pixels, or the text no room, it hands back 0 and changes nothing.
+// Document 01 gives the text of a line no rule and no number, so the call has none either: 0 says that nothing is written, since every text has bytes.
+pub fn line_text(z: i64, line: &[Pixel], dst: &mut [u8]) -> usize
+    ensures { λ r. ⌜ PrintsLine z (now (line .entry)) (now (dst .entry)) (now (dst .exit)) r ⌝ }
 {
-    if is_printable(line.len(), scratch.len(), dst.len()) {
-        let end = put_title(dst, z, line.len());
-        return put_stretches(dst, end, line, scratch);
+    if LONGEST < line.len() {
+        return 0;
     }
-    0
+    let mut runs = [0u8; RUNS];
+    let title = title_bytes(z, line.len());
+    let bytes = title + stretches_bytes(line, &mut runs);
+    if dst.len() < bytes {
+        return 0;
+    }
+    let end = put_title(dst, z, line.len());
+    put_stretches(dst, end, line, &mut runs)
 }
 
 // Writes what both programs print of a refusal to the front of dst. Hands back its bytes; where they have no room, 0, and nothing changes.
 pub fn refusal_text(number: u64, dst: &mut [u8]) -> usize
-    ensures { λ r. ⌜ Prints (leb (length (refusalText number)) (length (now (dst .entry)))) (refusalText number) (now (dst .entry)) (now (dst .exit)) r ⌝ }
+    ensures { λ r. ⌜ PrintsRefusal number (now (dst .entry)) (now (dst .exit)) r ⌝ }
 {
     let fields = [number];
     if line_bytes(&fields) <= dst.len() {

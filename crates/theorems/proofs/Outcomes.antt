@@ -14,7 +14,6 @@ use mathlib.Core.Path.{_≡_, sym, ap, _∙_}
 use mathlib.Core.Bool.{Bool}
 use mathlib.Core.List.{List, map}
 use Prim.Native.Nat.{ℕ, _-_}
-use lib.Dec.{leb}
 use lib.ListN.{length}
 use lib.IntN.{ℤ}
 use Rattle.lists.specs.Stores.{front}
@@ -46,7 +45,7 @@ use Rattle.sizes.specs.Frame.{SumsFrame}
 use Rattle.sizes.specs.Rose.{Roses}
 use Rattle.text.specs.declared.input.Input.{Input}
 use Rattle.text.specs.Inputs.{rowsIn, ReadsInput}
-use Rattle.text.specs.Stretches.{refusalText, Prints, PrintsLine}
+use Rattle.text.specs.Stretches.{Prints, PrintsLine, PrintsRefusal}
 use Rattle.text.specs.Sums.{sumsText, WritesSums}
 
 -- what an answer settles of a buffer is one thing where the answers are one
@@ -140,10 +139,8 @@ read-input-once {s} {dst} {r₁ = r₁} {r₂ = r₂} p q =
 prints-once : {ok : Bool} {t dst dst₁ dst₂ : List ℕ} {n₁ n₂ : ℕ} → Prints ok t dst dst₁ n₁ → Prints ok t dst dst₂ n₂ → (n₁ ≡ n₂) × (dst₁ ≡ dst₂)
 prints-once p q = (p .bytes ∙ sym (q .bytes), p .written ∙ sym (q .written))
 
-pub line-text-once : {z : ℤ} {f dst dst₁ dst₂ t t₁ t₂ : List ℕ} {n₁ n₂ : ℕ} → PrintsLine z f dst dst₁ t t₁ n₁ → PrintsLine z f dst dst₂ t t₂ n₂
-    → (n₁ ≡ n₂) × (dst₁ ≡ dst₂)
+pub line-text-once : {z : ℤ} {f dst dst₁ dst₂ : List ℕ} {n₁ n₂ : ℕ} → PrintsLine z f dst dst₁ n₁ → PrintsLine z f dst dst₂ n₂ → (n₁ ≡ n₂) × (dst₁ ≡ dst₂)
 line-text-once p q = prints-once (p .text) (q .text)
 
-pub refusal-text-once : (k : ℕ) {dst dst₁ dst₂ : List ℕ} {n₁ n₂ : ℕ} → Prints (leb (length (refusalText k)) (length dst)) (refusalText k) dst dst₁ n₁
-    → Prints (leb (length (refusalText k)) (length dst)) (refusalText k) dst dst₂ n₂ → (n₁ ≡ n₂) × (dst₁ ≡ dst₂)
-refusal-text-once k p q = prints-once p q
+pub refusal-text-once : {k : ℕ} {dst dst₁ dst₂ : List ℕ} {n₁ n₂ : ℕ} → PrintsRefusal k dst dst₁ n₁ → PrintsRefusal k dst dst₂ n₂ → (n₁ ≡ n₂) × (dst₁ ≡ dst₂)
+refusal-text-once p q = prints-once (p .text) (q .text)

@@ -1,7 +1,7 @@
 -- The two programs' texts: what the calls of the crate `text` write and read, from their contracts alone.
 --   sums-text-is                         what a done `sums_text` leaves at the front of a destination, and its bytes
---   line-text-is, line-text-none         what `line_text` writes of a line, and that it changes nothing where it does not
---   refusal-nine                         what is printed of a refusal
+--   line-text-is, line-text-none         what `line_text` writes of a line, and that it changes nothing where it does not; line-text-room: room enough for it
+--   refusal-text-is, refusal-text-none   the same of `refusal_text` and a refusal's number; refusal-nine: of number 9
 --   input-given, given-input             `read_input` with room for the pixels takes just the inputs that the document allows, and hands back the frame whose
 --                                        text they are: reading inverts the rendering
 --   example-sums-text, example-sums      the example of the program sums, byte for byte: of its sums, and from its input to its output
@@ -11,11 +11,12 @@
 use mathlib.Core.Path.{_≡_, refl, sym, ap, ap₂, subst, _∙_}
 use mathlib.Core.Bool.{true, false}
 use mathlib.Core.List.{List, [], _∷_, _++_}
-use Prim.Native.Nat.{ℕ, zero, suc, _-_, _*_, _≤_}
+use mathlib.Core.Logic.{_⊎_, ⊎-elim}
+use Prim.Native.Nat.{ℕ, zero, suc, _+_, _-_, _*_, _≤_, _<_}
 use native.Mathlib.Omega.{arith}
 use lib.IntN.{ℤ, pos}
 use lib.ListN.{length, getD, take, drop}
-use borrow.Author.Tests.{ltb-false, not-false}
+use borrow.Author.Tests.{ltb-false, not-false, lt-leb, le-leb}
 use Rattle.lists.specs.Tables as tables
 use Rattle.lists.specs.Extremes as extremes
 use Rattle.lists.specs.Stores.{front}
@@ -33,14 +34,14 @@ use Rattle.gathering.specs.Gathering.{Gathers}
 use Rattle.sizes.specs.Sums.{frameSums}
 use Rattle.sizes.specs.Frame.{SumsFrame}
 use Rattle.text.specs.declared.input.Input.{Input}
-use Rattle.text.specs.Decimal.{digits}
+use Rattle.text.specs.Decimal.{digits, decimal}
 use Rattle.text.specs.Lines.{fieldsText}
 use Rattle.text.specs.Reading.{Values}
-use Rattle.text.specs.Inputs.{largest, frameText, directionIn, widthIn, heightIn, rowsIn, headOf, inputRules, ReadsInput}
-use Rattle.text.specs.Stretches.{lineReport, refusalText, isPrintable, PrintsLine}
+use Rattle.text.specs.Inputs.{longestInput, frameText, directionIn, widthIn, heightIn, rowsIn, headOf, inputRules, ReadsInput}
+use Rattle.text.specs.Stretches.{lineReport, refusalText, PrintsLine, PrintsRefusal}
 use Rattle.text.specs.Sums.{sumsText, WritesSums}
 use Rattle.text.proofs.Texts.{sums-example}
-use Rattle.text.proofs.Reports.{line-example}
+use Rattle.text.proofs.Reports.{report-fits, report-some, printable, too-long, no-room, refusal-is, refusal-length, line-example}
 use Rattle.text.proofs.Frames.{rows-below, rows-many}
 use Rattle.text.proofs.Inputs.{input-example, head-found, frame-written, accepted-text, text-accepted}
 use Rattle.theorems.specs.Marked.{line}
@@ -65,22 +66,42 @@ example-sums-text {dst} p z =
 
 -- ---- what is printed of a line and of a refusal
 
-module _ {z : ℤ} {f dst dst′ t t′ : List ℕ} {n : ℕ} (p : PrintsLine z f dst dst′ t t′ n) where
-  -- '`L`, line number, pixel count, then its `Z` lines: start, end, level, base'
-  pub line-text-is : isPrintable (length f) (length t) (length dst) ≡ true → (dst′ ≡ front (lineReport z f) dst) × (n ≡ length (lineReport z f))
-  line-text-is ok = (p .text .written ∙ rw ok, p .text .bytes ∙ rw ok)
+module _ {z : ℤ} {f dst dst′ : List ℕ} {n : ℕ} (p : PrintsLine z f dst dst′ n) where
+  -- '`L`, line number, pixel count, then its `Z` lines: start, end, level, base'; no text has 0 bytes
+  pub line-text-is : length f ≤ longest → length (lineReport z f) ≤ length dst → (dst′ ≡ front (lineReport z f) dst) × (n ≡ length (lineReport z f)) × (0 < n)
+  line-text-is short fit =
+      let ok = printable z f (length dst) short fit in
+      let bytes : n ≡ length (lineReport z f) = p .text .bytes ∙ rw ok in
+      (p .text .written ∙ rw ok, bytes, omega (arith, bytes, report-some z f))
 
-  pub line-text-none : isPrintable (length f) (length t) (length dst) ≡ false → (n ≡ 0) × (dst′ ≡ dst) × (t′ ≡ t)
-  line-text-none small = (p .text .bytes ∙ rw small, p .text .written ∙ rw small, p .scratch-kept small)
+  pub line-text-none : (longest < length f) ⊎ (length dst < length (lineReport z f)) → (n ≡ 0) × (dst′ ≡ dst)
+  line-text-none why =
+      let not = ⊎-elim (too-long z f (length dst)) (no-room z f (length dst)) why in
+      (p .text .bytes ∙ rw not, p .text .written ∙ rw not)
+
+-- 64 bytes, and 86 a pixel, are always room enough: an `L` line has at most 64, a `Z` line at most 86, and a line no more stretches than pixels
+pub line-text-room : (z : ℤ) (f : List ℕ) → length (lineReport z f) ≤ 64 + 86 * length f
+line-text-room = report-fits
 
 -- the line 3 5 5 2 4, which is number 0
-pub example-line-text : {dst dst′ t t′ : List ℕ} {n : ℕ} → PrintsLine (pos 0) line dst dst′ t t′ n → isPrintable 5 (length t) (length dst) ≡ true
+pub example-line-text : {dst dst′ : List ℕ} {n : ℕ} → PrintsLine (pos 0) line dst dst′ n → length exampleStretches ≤ length dst
     → (dst′ ≡ front exampleStretches dst) × (n ≡ length exampleStretches)
-example-line-text {dst} p ok =
-    let t = line-text-is p ok in
+example-line-text {dst} p fit =
+    let t = line-text-is p (omega arith) (rw line-example fit) in
     (t .0 ∙ ap (λ (t : List ℕ). front t dst) line-example, t .1 ∙ ap length line-example)
 
--- 'A refusal prints `E` and the number only.'
+module _ {k : ℕ} {dst dst′ : List ℕ} {n : ℕ} (p : PrintsRefusal k dst dst′ n) where
+  -- 'A refusal prints `E` and the number only': `E` is 69, a tab 9, a line feed 10
+  pub refusal-text-is : 3 + length (decimal k) ≤ length dst → (dst′ ≡ front (69 ∷ 9 ∷ (decimal k ++ (10 ∷ []))) dst) × (n ≡ 3 + length (decimal k))
+  refusal-text-is fit =
+      let ok = le-leb (length (refusalText k)) (length dst) (omega (arith, refusal-length k)) in
+      (p .text .written ∙ rw ok (ap (λ (t : List ℕ). front t dst) (refusal-is k)), p .text .bytes ∙ rw ok (refusal-length k))
+
+  pub refusal-text-none : length dst < 3 + length (decimal k) → (n ≡ 0) × (dst′ ≡ dst)
+  refusal-text-none small =
+      let not = lt-leb (length (refusalText k)) (length dst) (omega (arith, refusal-length k)) in
+      (p .text .bytes ∙ rw not, p .text .written ∙ rw not)
+
 pub refusal-nine : refusalText 9 ≡ 69 ∷ 9 ∷ 57 ∷ 10 ∷ []
 unfolding fieldsText digits
 refusal-nine = refl
@@ -101,7 +122,7 @@ module _ {s dst dst′ : List ℕ} {r : Input} (p : ReadsInput s dst dst′ r) w
       let given : Given s (directionIn s) (widthIn s) (heightIn s) (rowsIn s .values) =
       record {
         is = accepted-text s (length dst) zero-is;
-        size = ltb-false largest (length s) (k .0);
+        size = ltb-false longestInput (length s) (k .0);
         numbered = ltb-false 15 (directionIn s) (k .1 .1 .1 .1 .0);
         wide = outside-not 1 longest (widthIn s) (k .1 .1 .0);
         high = outside-not 1 longest (heightIn s) (k .1 .1 .1 .0);
@@ -189,12 +210,12 @@ example-line : (rest : List ℕ) → lineRead (line ++ rest) (shape 5 1 5) (numb
 unfolding tables.each lines.r
 example-line rest = refl
 
-module _ {px px′ buf buf′ out out′ t t′ : List ℕ} {r : Input} {b : Answer} {n : ℕ} where
+module _ {px px′ buf buf′ out out′ : List ℕ} {r : Input} {b : Answer} {n : ℕ} where
   pub example-stretches : ReadsInput exampleInput px px′ r → 5 ≤ length px
       → Gathers px′ (shape (r .width) (r .height) (r .width)) (numberedOf (r .direction)) (pos 0) buf buf′ b → b .number ≡ 0
-      → PrintsLine (pos 0) (take (b .figure) buf′) out out′ t t′ n → isPrintable 5 (length t) (length out) ≡ true
+      → PrintsLine (pos 0) (take (b .figure) buf′) out out′ n → length exampleStretches ≤ length out
       → (out′ ≡ front exampleStretches out) × (n ≡ length exampleStretches)
-  example-stretches p room q y w ok =
+  example-stretches p room q y w fit =
       let read = given-input p example-given room in
       let of-frame : Gathers px′ (shape 5 1 5) (numberedOf 0) (pos 0) buf buf′ b =
       subst (λ (r : Input). Gathers px′ (shape (r .width) (r .height) (r .width)) (numberedOf (r .direction)) (pos 0) buf buf′ b) (read .0) q in
@@ -205,4 +226,4 @@ module _ {px px′ buf buf′ out out′ t t′ : List ℕ} {r : Input} {b : Ans
       let stored : buf′ ≡ front line buf =
       g .written ∙ after-done b (front (lineRead (line ++ drop 5 px) (shape 5 1 5) (numberedOf 0) (pos 0)) buf) buf y ∙ ap (λ (l : List ℕ). front l buf) (example-line (drop 5 px)) in
       let taken : take (b .figure) buf′ ≡ line = ap₂ (λ (n : ℕ) (l : List ℕ). take n l) five stored in
-      example-line-text (subst (λ (l : List ℕ). PrintsLine (pos 0) l out out′ t t′ n) taken w) ok
+      example-line-text (subst (λ (l : List ℕ). PrintsLine (pos 0) l out out′ n) taken w) fit

@@ -7,7 +7,7 @@ use mathlib.Core.List.{List, [], _∷_}
 use Prim.Native.Nat.{ℕ, _*_, _≤_}
 use lib.ListN.{length, getD}
 use Rattle.answer.specs.Limits.{longest}
-use Rattle.text.specs.Inputs.{largest, frameText}
+use Rattle.text.specs.Inputs.{longestInput, frameText}
 
 -- 'For the input' D 0, F 5 1, R 3 5 5 2 4
 abbrev pub exampleInput : List ℕ
@@ -38,7 +38,7 @@ pub record Given (s : List ℕ) (d w h : ℕ) (ps : List ℕ) : Type 0 where
   -- 'Input: `D` and a direction number; `F`, width, height; then one `R` line a row with its pixels; nothing after.'
   pub is : s ≡ frameText d w h ps
   -- 'At most 65,536 bytes.'
-  pub size : length s ≤ largest
+  pub size : length s ≤ longestInput
   pub numbered : d ≤ 15
   pub wide : (1 ≤ w) × (w ≤ longest)
   pub high : (1 ≤ h) × (h ≤ longest)

@@ -5,8 +5,7 @@ use native.Mathlib.Omega.{arith}
 use lib.ListN.{length}
 use lib.Seq.{length-sets}
 use borrow.Author.Tests.{not-true, not-false}
-use Rattle.answer.specs.Limits.{widest}
-use Rattle.text.specs.Reading.{lineOf}
+use Rattle.text.specs.Reading.{largestNumber, lineOf}
 use Rattle.text.proofs.Goings.{line-many, head-broken, head-read, stores-none}
 use borrow.Author.Needs.{needs}
 use Rattle.text.proofs.reading.read_head.Statement.{statement}
@@ -34,15 +33,15 @@ read-line-requires-2 c κs =
     let text = args .text .now in
     let first = c .before .before .before .before .before .read-line in
     let found = not-false _ (c .before .if1 .left) in
-    let one = line-many 68 widest 1 text (sym (first .ensures .found) ∙ found) in
-    let size = ap length (first .ensures .stored found) ∙ length-sets (args .values .now) 0 (lineOf 68 widest 1 text .values) in (
+    let one = line-many 68 largestNumber 1 text (sym (first .ensures .found) ∙ found) in
+    let size = ap length (first .ensures .stored found) ∙ length-sets (args .values .now) 0 (lineOf 68 largestNumber 1 text .values) in (
       record {
         inside = first .ensures .inside found;
         fewer = omega (arith, first .ensures .far found);
         large = omega
             (arith, size, c .before .before .before .before .before .before .before .before .before .pre);
       },
-      le-refl widest,
+      le-refl largestNumber,
     )
 
 same-length-2 : tie.Need-same-length-2

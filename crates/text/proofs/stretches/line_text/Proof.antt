@@ -1,75 +1,85 @@
--- The `L` line, and the `Z` lines behind it, where there is room for both.
-use mathlib.Core.Path.{refl, sym, _∙_}
-use mathlib.Core.Bool.{true≢false}
+-- The bytes are counted; where they have room, the `L` line, and the `Z` lines behind it.
+use Prim.Native.Nat.{_≤_, _<_}
 use native.Mathlib.Omega.{arith}
 use lib.ListN.{length}
 use mir.Facts.{toZ-ofZ}
 use Rattle.text.specs.Stretches.{lineReport}
-use Rattle.text.proofs.Reports.{title-most, report-length, report-put, report-fits, prints-done, prints-none, printable}
+use Rattle.text.proofs.Reports.{title-most, stretches-most, report-length, report-put, prints-done, prints-none, printable, too-long, no-room}
 use borrow.Author.Needs.{needs}
 use Rattle.text.proofs.stretches.line_text.Statement.{statement}
 use Rattle.text.proofs.stretches.line_text.Tie as tie
 
-is-printable-requires : tie.Need-is-printable-requires
-is-printable-requires c κs = search needs
+returns : tie.Need-returns
+returns c =
+    let args = c .before .before .before .args in
+    let z = args .z in
+    let line = args .line .now in
+    let dst = args .dst .now in
+    record { text = prints-none (lineReport z line) dst (too-long z line (length dst) (c .if1 .taken)) }
+
+title-bytes-requires : tie.Need-title-bytes-requires
+title-bytes-requires c κs = search needs
+
+slice-aggregate-stretches-bytes : tie.Need-slice-aggregate-stretches-bytes
+slice-aggregate-stretches-bytes c = search needs
+
+stretches-bytes-requires : tie.Need-stretches-bytes-requires
+stretches-bytes-requires c κs = search needs
+
+add-bytes : tie.Need-add-bytes
+add-bytes c =
+    let entry = c .before .before .before .before .before .before .before in
+    let line = entry .args .line .now in
+    let title = rw (toZ-ofZ (entry .fits .z)) at (c .before .before .before .title-bytes .ensures) in
+    omega (arith, title, title-most (entry .args .z) (length line), c .before .stretches-bytes .ensures, stretches-most line, c .before .before .before .before .if1 .left)
+
+returns-2 : tie.Need-returns-2
+returns-2 c =
+    let entry = c .before .before .before .before .before .before .before .before in
+    let z = entry .args .z in
+    let line = entry .args .line .now in
+    let dst = entry .args .dst .now in
+    let title = rw (toZ-ofZ (entry .fits .z)) at (c .before .before .before .before .title-bytes .ensures) in
+    let small : length dst < length (lineReport z line) = omega (arith, title, c .before .before .stretches-bytes .ensures, report-length z line, c .if2 .taken) in
+    record { text = prints-none (lineReport z line) dst (no-room z line (length dst) small) }
 
 put-title-requires : tie.Need-put-title-requires
-put-title-requires c κs =
-    let args = c .before .before .before .before .before .before .args in
-    let z = args .z in
-    let line = args .line .now in
-    let bits = toZ-ofZ (c .before .before .before .before .before .before .fits .z) in
-    let ok = sym (c .before .before .is-printable .ensures) ∙ c .before .if1 .taken in
-    let room = printable (length line) (length (args .scratch .now)) (length (args .dst .now)) ok in
-    rw bits (omega (arith, room .2, title-most z (length line)))
+put-title-requires c κs = search needs
+
+slice-aggregate-put-stretches : tie.Need-slice-aggregate-put-stretches
+slice-aggregate-put-stretches c = search needs
 
 put-stretches-requires : tie.Need-put-stretches-requires
-put-stretches-requires c κs =
-    let args = c .before .before .before .before .before .before .before .before .before .before .before .args in
-    let z = args .z in
-    let line = args .line .now in
-    let bits = toZ-ofZ (c .before .before .before .before .before .before .before .before .before .before .before .fits .z) in
-    let ok = sym (c .before .before .before .before .before .before .before .is-printable .ensures) ∙ c .before .before .before .before .before .before .if1 .taken in
-    let room = printable (length line) (length (args .scratch .now)) (length (args .dst .now)) ok in
-    let title = rw bits at (c .before .before .before .before .put-title .ensures) in
-    (room .0, room .1, omega (arith, room .2, title .next, c .before .before .before .before .put-title .kept .0, report-length z line, report-fits z line))
+put-stretches-requires c κs = search needs
 
 same-length : tie.Need-same-length
 same-length c = search needs
 
-same-length-2 : tie.Need-same-length-2
-same-length-2 c = search needs
-
-returns : tie.Need-returns
-returns c =
-    let args = c .before .before .before .before .before .before .before .before .before .before .before .before .before .before .before .before .args in
-    let z = args .z in
-    let line = args .line .now in
-    let bits = toZ-ofZ (c .before .before .before .before .before .before .before .before .before .before .before .before .before .before .before .before .fits .z) in
-    let ok = sym (c .before .before .before .before .before .before .before .before .before .before .before .before .is-printable .ensures)
-    ∙ c .before .before .before .before .before .before .before .before .before .before .before .if1 .taken in
-    let room = printable (length line) (length (args .scratch .now)) (length (args .dst .now)) ok in
-    let title = rw bits at (c .before .before .before .before .before .before .before .before .before .put-title .ensures) in
-    record {
-      text = prints-done ok (report-put z line title (c .before .before .before .before .put-stretches .ensures .0)) (omega (arith, room .2, report-fits z line));
-      scratch-kept = λ e. absurd (true≢false (sym ok ∙ e));
-      scratch-length = c .before .before .before .before .put-stretches .ensures .1;
-    }
-
-returns-2 : tie.Need-returns-2
-returns-2 c =
-    let args = c .before .before .before .before .before .args in
-    let not = sym (c .before .is-printable .ensures) ∙ c .if1 .left in
-    record { text = prints-none (lineReport (args .z) (args .line .now)) (args .dst .now) not; scratch-kept = λ e. refl; scratch-length = refl }
+returns-3 : tie.Need-returns-3
+returns-3 c =
+    let entry = c .before .before .before .before .before .before .before .before .before .before .before .before .before .before .before .before .before .before in
+    let z = entry .args .z in
+    let line = entry .args .line .now in
+    let dst = entry .args .dst .now in
+    let bits = toZ-ofZ (entry .fits .z) in
+    let bytes = rw bits at (c .before .before .before .before .before .before .before .before .before .before .before .before .before .before .title-bytes .ensures) in
+    let title = rw bits at (c .before .before .before .before .before .before .before .before .put-title .ensures) in
+    let fit : length (lineReport z line) ≤ length dst = omega (arith, bytes, c .before .before .before .before .before .before .before .before .before .before .before .before .stretches-bytes .ensures, report-length z line, c .before .before .before .before .before .before .before .before .before .before .if2 .left) in
+    let short = c .before .before .before .before .before .before .before .before .before .before .before .before .before .before .before .if1 .left in
+    record { text = prints-done (printable z line (length dst) short fit) (report-put z line title (c .before .before .before .put-stretches .ensures)) fit }
 
 pub line-text-spec : {M : Type 1} → statement M
 line-text-spec =
     tie.close
     (tie.spec
-    is-printable-requires
+    returns
+    title-bytes-requires
+    slice-aggregate-stretches-bytes
+    stretches-bytes-requires
+    add-bytes
+    returns-2
     put-title-requires
+    slice-aggregate-put-stretches
     put-stretches-requires
     same-length
-    same-length-2
-    returns
-    returns-2)
+    returns-3)

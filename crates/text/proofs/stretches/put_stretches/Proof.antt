@@ -17,11 +17,11 @@ use Rattle.text.proofs.stretches.put_stretches.Statement.{statement}
 use Rattle.text.proofs.stretches.put_stretches.Tie as tie
 
 abbrev Inv-loop : tie.InvT-loop
-Inv-loop dst₀ at line scratch₀ end₀ bookmark₀ dst scratch end bookmark =
-    (length scratch ≡ length scratch₀) × (length dst ≡ length dst₀) × Left dst₀ at (stretchesText (stretches line)) dst end (stretchesText (coming run8 line scratch bookmark))
+Inv-loop dst₀ at line runs₀ end₀ bookmark₀ dst runs end bookmark =
+    (length runs ≡ length runs₀) × (length dst ≡ length dst₀) × Left dst₀ at (stretchesText (stretches line)) dst end (stretchesText (coming run8 line runs bookmark))
 
 abbrev μ-loop : tie.MeasureT-loop
-μ-loop dst₀ at line scratch₀ end₀ bookmark₀ dst scratch end bookmark = length (coming run8 line scratch bookmark)
+μ-loop dst₀ at line runs₀ end₀ bookmark₀ dst runs end bookmark = length (coming run8 line runs bookmark)
 
 begin-requires : tie.Need-begin-requires Inv-loop μ-loop
 begin-requires c κs = search needs
@@ -30,7 +30,7 @@ loop-holds : tie.Need-loop-holds Inv-loop μ-loop
 loop-holds c =
     let args = c .before .before .before .before .args in
     let pre = c .before .before .before .before .pre in
-    (refl, refl, rw (c .begin .ensures, coming-beginning run8 (args .line .now) (args .scratch .now) (pre .0) (pre .1)) (left-start _ _ _))
+    (refl, refl, rw (c .begin .ensures, coming-beginning run8 (args .line .now) (args .runs .now) (pre .0) (pre .1)) (left-start _ _ _))
 
 next-requires : tie.Need-next-requires Inv-loop μ-loop
 next-requires c κs = search needs
@@ -46,7 +46,7 @@ returns c =
     let at = c .before .before .before .before .before .before .loop in
     let next = c .before .before .before .before .next in
     let none = coming-none (next .ensures) (not-true _ (c .if1 .taken)) in
-    (left-end (rw (none, stretches-none) at (at .inv .2)) (puts-none (at .dst) (at .end)), next .ensures .kept ∙ at .inv .0)
+    left-end (rw (none, stretches-none) at (at .inv .2)) (puts-none (at .dst) (at .end))
 
 stretch-fields-requires : tie.Need-stretch-fields-requires Inv-loop μ-loop
 stretch-fields-requires c κs = search needs

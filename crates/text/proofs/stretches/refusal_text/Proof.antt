@@ -27,14 +27,14 @@ returns c =
     let number = c .before .before .before .before .before .before .before .before .before .args .number in
     let dst = c .before .before .before .before .before .before .before .before .before .args .dst .now in
     let fit = rw (c .before .before .before .before .before .before .line-bytes .ensures .0) at (c .before .before .before .before .before .if1 .taken) in
-    prints-done (le-leb (length (refusalText number)) (length dst) fit) (c .before .before .put-line .ensures) fit
+    record { text = prints-done (le-leb (length (refusalText number)) (length dst) fit) (c .before .before .put-line .ensures) fit }
 
 returns-2 : tie.Need-returns-2
 returns-2 c =
     let number = c .before .before .before .before .args .number in
     let dst = c .before .before .before .before .args .dst .now in
     let short = rw (c .before .line-bytes .ensures .0) at (c .if1 .left) in
-    prints-none (refusalText number) dst (lt-leb (length (refusalText number)) (length dst) short)
+    record { text = prints-none (refusalText number) dst (lt-leb (length (refusalText number)) (length dst) short) }
 
 pub refusal-text-spec : {M : Type 1} → statement M
 refusal-text-spec =
