@@ -1,9 +1,10 @@
 // The two programs, from their specification alone: what each must print for an input, by the definitions taken literally.
-// Runs both on many inputs, whole and in pieces, and compares. Usage: programs RUN, where `RUN NAME` runs the program NAME.
-use std::io::Write;
-use std::process::{Command, Stdio};
-use std::thread;
-use std::time::Duration;
+// Runs both on many inputs, whole and in pieces, and compares; then where reads and writes are interrupted or fail (streams.rs): a failed read must leave nothing
+// printed, a failed write no more than a part of the right text up to there.
+// Usage: programs RUN FILE [LIBRARY], where `RUN NAME` runs the program NAME, FILE may be written, and LIBRARY is made of faults.c.
+mod streams;
+
+use streams::{Faults, Ran};
 
 const DIRECTIONS: [(i64, i64); 16] = [
     (1, 0), (4, 1), (2, 1), (4, 3), (1, 1), (3, 4), (1, 2), (1, 4),
@@ -147,27 +148,6 @@ fn expected(program: &str, input: &[u8]) -> String {
     }
 }
 
-// What a program prints, its input given in pieces of `piece` bytes.
-fn printed(run: &str, program: &str, input: &[u8], piece: usize) -> Vec<u8> {
-    let mut child = Command::new(run).arg(program).stdin(Stdio::piped()).stdout(Stdio::piped()).spawn().unwrap();
-    let mut stdin = child.stdin.take().unwrap();
-    let text = input.to_vec();
-    let writer = thread::spawn(move || {
-        for (i, part) in text.chunks(piece).enumerate() {
-            // a program that has read enough may be gone
-            if stdin.write_all(part).is_err() {
-                return;
-            }
-            if i < 20 && piece < text.len() {
-                thread::sleep(Duration::from_millis(1));
-            }
-        }
-    });
-    let out = child.wait_with_output().unwrap();
-    writer.join().unwrap();
-    out.stdout
-}
-
 struct Noise(u64);
 
 impl Noise {
@@ -236,26 +216,170 @@ fn odd_inputs() -> Vec<Vec<u8>> {
     all
 }
 
-fn main() {
-    let run = std::env::args().nth(1).expect("usage: programs RUN");
-    let mut noise = Noise(1);
-    let (good, odd) = (frames(&mut noise), odd_inputs());
-    assert_eq!(good[good.len() - 1].len(), 65536);
-    assert_eq!(odd[odd.len() - 5].len(), 65537);
-    let (mut runs, mut wrong) = (0, 0);
-    for (i, input) in good.iter().chain(odd.iter()).enumerate() {
-        for program in ["stretches", "sums"] {
-            let pieces = if i % 8 == 0 { vec![input.len().max(1), 7] } else { vec![input.len().max(1)] };
-            for piece in pieces {
-                runs += 1;
-                if printed(&run, program, input, piece) != expected(program, input).into_bytes() {
-                    wrong += 1;
-                    let start = &input[..input.len().min(60)];
-                    eprintln!("check/programs: {} in pieces of {}: {:?}", program, piece, String::from_utf8_lossy(start));
-                }
+// How many runs of each kind there were, and how many of all were not as they must be.
+struct Tally {
+    kinds: Vec<(&'static str, u32)>,
+    wrong: u32,
+}
+
+impl Tally {
+    fn count(&mut self, kind: &'static str, right: bool, program: &str, input: &[u8], plan: &str) {
+        match self.kinds.iter_mut().find(|k| k.0 == kind) {
+            Some(k) => k.1 += 1,
+            None => self.kinds.push((kind, 1)),
+        }
+        if !right {
+            self.wrong += 1;
+            let start = String::from_utf8_lossy(&input[..input.len().min(60)]);
+            eprintln!("check/programs: {} {}, {:?}: {}", program, kind, start, &plan[..plan.len().min(200)]);
+        }
+    }
+}
+
+const PROGRAMS: [&str; 2] = ["stretches", "sums"];
+
+fn plain_runs(tally: &mut Tally, run: &str, inputs: &[Vec<u8>]) {
+    for (i, input) in inputs.iter().enumerate() {
+        for program in PROGRAMS {
+            let want = expected(program, input).into_bytes();
+            let mut compare = |kind, piece| {
+                let ran = streams::in_pieces(run, program, input, piece);
+                tally.count(kind, ran.ended() && ran.printed == want, program, input, &format!("pieces of {}", piece));
+            };
+            compare("with the whole input at once", input.len().max(1));
+            if i % 8 == 0 {
+                compare("with the input in pieces", 7);
+                compare("with the input in pieces", 1);
             }
         }
     }
-    println!("check/programs: {} runs, {} differ", runs, wrong);
-    std::process::exit(if wrong == 0 { 0 } else { 1 });
+}
+
+// Streams that cannot be read or written at all: nothing is printed, and the program ends. An emulator opens files of its own, which get the place of what is closed.
+fn broken_runs(tally: &mut Tally, run: &str, input: &[u8], emulated: bool) {
+    const KIND: &str = "on a closed, full or broken stream";
+    for program in PROGRAMS {
+        let mut silent = |ran: Ran, which| tally.count(KIND, ran.ended() && ran.printed.is_empty(), program, input, which);
+        silent(streams::from_folder(run, program), "input is a folder");
+        silent(streams::to_full(run, program, input), "output is full");
+        silent(streams::to_nobody_unsignalled(run, program, input), "output that nobody reads, without a signal");
+        if !emulated {
+            silent(streams::from_closed(run, program), "input is closed");
+            silent(streams::to_closed(run, program, input), "output is closed");
+        }
+        tally.count(KIND, streams::to_nobody(run, program, input).ended_unread(), program, input, "output that nobody reads");
+    }
+}
+
+// Steps of a plan (faults.c): more than any call moves, and numbers of errors.
+const ALL: &str = "1000000";
+const EINTR: u32 = 4;
+const EIO: u32 = 5;
+const EAGAIN: u32 = 11;
+const ENOSPC: u32 = 28;
+const EPIPE: u32 = 32;
+
+// A program tries a call a million times that is interrupted each time, and no more (docs/DECISIONS.md).
+const TRIES: u32 = 1000000;
+
+// Few bytes and many, and interruptions between them, till all is moved.
+fn interrupted(noise: &mut Noise) -> String {
+    let mut plan = String::new();
+    for _ in 0..300 {
+        plan += &match noise.below(3) {
+            0 => format!("-{}x{} ", EINTR, 1 + noise.below(40)),
+            1 => format!("{} ", 1 + noise.below(9)),
+            _ => format!("{} ", 1 + noise.below(600)),
+        };
+    }
+    plan + ALL
+}
+
+// These steps, then a failure, and then all that is still asked for.
+fn failing_after(steps: &[u64], error: u32) -> String {
+    let moved: String = steps.iter().filter(|n| **n > 0).map(|n| format!("{} ", n)).collect();
+    format!("{}-{} {}", moved, error, ALL)
+}
+
+// The same behind fewer than `most` bytes, in steps by chance.
+fn failing(noise: &mut Noise, most: usize, error: u32) -> String {
+    let (mut steps, mut left) = (Vec::new(), noise.below(most as u64));
+    while left > 0 {
+        steps.push(1 + noise.below(left));
+        left -= steps[steps.len() - 1];
+    }
+    failing_after(&steps, error)
+}
+
+// Reads and writes by plans: interrupted and short ones change nothing, a failed read leaves nothing printed, and behind a failed write nothing follows.
+fn planned_runs(tally: &mut Tally, run: &str, faults: &Faults, input: &[u8], noise: &mut Noise) {
+    let read = input.len().min(65536);
+    for program in PROGRAMS {
+        let want = expected(program, input).into_bytes();
+        let mut plans = vec![(interrupted(noise), ALL.into()), (ALL.into(), interrupted(noise)), (interrupted(noise), interrupted(noise)), ("1".into(), "1".into())];
+        if read < input.len() {
+            // it is known to be too long before the read that would fail
+            plans.push((failing_after(&[65537], EIO), ALL.into()));
+        }
+        for (reads, writes) in plans {
+            let ran = faults.planned(run, program, input, &reads, &writes);
+            tally.count("with interrupted and short reads and writes", ran.ended() && ran.printed == want, program, input, &format!("{}; {}", reads, writes));
+        }
+        for reads in [failing_after(&[], EIO), failing(noise, read + 1, EIO), failing(noise, read + 1, EAGAIN), failing_after(&[read as u64], EIO)] {
+            let ran = faults.planned(run, program, input, &reads, ALL);
+            tally.count("with a failing read", ran.ended() && ran.printed.is_empty(), program, input, &reads);
+        }
+        // at last a write that takes nothing
+        for writes in [failing_after(&[], ENOSPC), failing(noise, want.len(), ENOSPC), failing(noise, want.len(), EPIPE), failing(noise, want.len(), 0)] {
+            let ran = faults.planned(run, program, input, ALL, &writes);
+            let part = want.starts_with(&ran.printed) && ran.printed.len() < want.len();
+            tally.count("with a failing write", ran.ended() && part, program, input, &writes);
+        }
+    }
+}
+
+// One interruption fewer than a program bears, and as many.
+fn interrupted_runs(tally: &mut Tally, run: &str, faults: &Faults, input: &[u8]) {
+    for program in PROGRAMS {
+        for (interruptions, want) in [(TRIES - 1, expected(program, input)), (TRIES, String::new())] {
+            let plan = format!("-{}x{} {}", EINTR, interruptions, ALL);
+            for (reads, writes) in [(plan.as_str(), ALL), (ALL, plan.as_str())] {
+                let ran = faults.planned(run, program, input, reads, writes);
+                tally.count("with a million tries", ran.ended() && ran.printed == want.as_bytes(), program, input, &plan);
+            }
+        }
+    }
+}
+
+fn main() {
+    let words: Vec<String> = std::env::args().collect();
+    let run = words.get(1).expect("usage: programs RUN FILE [LIBRARY]");
+    let emulated = !cfg!(target_arch = "x86_64");
+    let mut noise = Noise(1);
+    let mut inputs = frames(&mut noise);
+    let full = inputs.len() - 1;
+    assert_eq!(inputs[full].len(), 65536);
+    inputs.extend(odd_inputs());
+    let (empty, longer) = (full + 1, inputs.len() - 5);
+    assert_eq!((inputs[empty].len(), inputs[longer].len()), (0, 65537));
+    let mut tally = Tally { kinds: Vec::new(), wrong: 0 };
+    plain_runs(&mut tally, run, &inputs);
+    broken_runs(&mut tally, run, &inputs[0], emulated);
+    broken_runs(&mut tally, run, &inputs[full], emulated);
+    let mut left_out = if emulated { vec!["streams that are closed, under an emulator"] } else { Vec::new() };
+    if let Some(library) = words.get(3) {
+        let faults = Faults { library: library.clone(), file: words[2].clone() };
+        for i in (0..inputs.len()).filter(|i| i % 16 == 0 || [full, empty, longer, inputs.len() - 2].contains(i)) {
+            planned_runs(&mut tally, run, &faults, &inputs[i], &mut noise);
+        }
+        interrupted_runs(&mut tally, run, &faults, &inputs[0]);
+    } else {
+        left_out.push("interrupted, short and failing reads and writes, for which no compiler made faults.c");
+    }
+    for what in left_out {
+        println!("check/programs: left out here: {}", what);
+    }
+    let kinds: Vec<String> = tally.kinds.iter().map(|(kind, runs)| format!("{} {}", runs, kind)).collect();
+    println!("check/programs: runs: {}; {} differ", kinds.join(", "), tally.wrong);
+    std::process::exit(if tally.wrong == 0 { 0 } else { 1 });
 }

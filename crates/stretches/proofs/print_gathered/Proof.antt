@@ -14,6 +14,9 @@ gather-requires c κs = search needs
 returns : tie.Need-returns
 returns c = search needs
 
+returns-2 : tie.Need-returns-2
+returns-2 c = search needs
+
 array-share-prefix-line : tie.Need-array-share-prefix-line
 array-share-prefix-line c = search needs
 
@@ -22,9 +25,6 @@ slice-aggregate-print-line c = sym (length-take-le _ _ (search needs))
 
 print-line-requires : tie.Need-print-line-requires
 print-line-requires c κs = search needs
-
-returns-2 : tie.Need-returns-2
-returns-2 c = search needs
 
 returns-3 : tie.Need-returns-3
 returns-3 c = search needs
@@ -36,8 +36,8 @@ print-gathered-spec =
     slice-aggregate-gather
     gather-requires
     returns
+    returns-2
     array-share-prefix-line
     slice-aggregate-print-line
     print-line-requires
-    returns-2
     returns-3)

@@ -22,6 +22,9 @@ line-number-requires c κs = search needs
 print-gathered-requires : tie.Need-print-gathered-requires Inv-loop μ-loop
 print-gathered-requires c κs = search needs
 
+returns : tie.Need-returns Inv-loop μ-loop
+returns c = search needs
+
 add-u : tie.Need-add-u Inv-loop μ-loop
 add-u c = search needs
 
@@ -31,8 +34,8 @@ loop-less c = search needs
 loop-again : tie.Need-loop-again Inv-loop μ-loop
 loop-again c = search needs
 
-returns : tie.Need-returns Inv-loop μ-loop
-returns c = search needs
+returns-2 : tie.Need-returns-2 Inv-loop μ-loop
+returns-2 c = search needs
 
 pub print-lines-spec : {M : Type 1} → statement M
 print-lines-spec =
@@ -44,7 +47,8 @@ print-lines-spec =
     loop-holds
     line-number-requires
     print-gathered-requires
+    returns
     add-u
     loop-less
     loop-again
-    returns)
+    returns-2)

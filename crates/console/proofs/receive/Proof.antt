@@ -1,0 +1,69 @@
+-- What is counted stands in the buffer; each turn reads one byte at least.
+use Prim.Native.Nat.{_≤_, _-_}
+use mathlib.Core.Path.{_≡_}
+use lib.ListN.{length}
+use borrow.Author.Needs.{needs}
+use Rattle.io.proofs.Counting.{counts}
+use Rattle.console.proofs.receive.Statement.{statement}
+use Rattle.console.proofs.receive.Tie as tie
+
+abbrev Inv-loop : tie.InvT-loop
+Inv-loop buf₀ count₀ buf count = (count ≤ length buf) × (length buf ≡ length buf₀)
+
+abbrev μ-loop : tie.MeasureT-loop
+μ-loop buf₀ count₀ buf count = length buf - count
+
+loop-holds : tie.Need-loop-holds Inv-loop μ-loop
+loop-holds c = search needs
+
+sub-read-once : tie.Need-sub-read-once Inv-loop μ-loop
+sub-read-once c = search needs
+
+part-read-once-start : tie.Need-part-read-once-start Inv-loop μ-loop
+part-read-once-start c = search needs
+
+part-read-once-end : tie.Need-part-read-once-end Inv-loop μ-loop
+part-read-once-end c = search needs
+
+read-once-requires : tie.Need-read-once-requires Inv-loop μ-loop
+read-once-requires c κs = search needs
+
+same-length : tie.Need-same-length Inv-loop μ-loop
+same-length c = search needs
+
+returns : tie.Need-returns Inv-loop μ-loop
+returns c = record { counted = counts _ _ (search needs); length-kept = same-length c }
+
+add-count : tie.Need-add-count Inv-loop μ-loop
+add-count c = search needs
+
+loop-less : tie.Need-loop-less Inv-loop μ-loop
+loop-less c = search needs
+
+loop-again : tie.Need-loop-again Inv-loop μ-loop
+loop-again c = search needs
+
+same-length-2 : tie.Need-same-length-2 Inv-loop μ-loop
+same-length-2 c = search needs
+
+returns-2 : tie.Need-returns-2 Inv-loop μ-loop
+returns-2 c = record { counted = counts _ _ (search needs); length-kept = same-length-2 c }
+
+pub receive-spec : {M : Type 1} → statement M
+receive-spec =
+    tie.close
+    (tie.spec
+    Inv-loop
+    μ-loop
+    loop-holds
+    sub-read-once
+    part-read-once-start
+    part-read-once-end
+    read-once-requires
+    same-length
+    returns
+    add-count
+    loop-less
+    loop-again
+    same-length-2
+    returns-2)
