@@ -2,17 +2,17 @@
 use libc::EINTR;
 use libc::STDIN_FILENO;
 use libc::STDOUT_FILENO;
-use text::LARGEST;
+use text::LONGEST_INPUT;
 ghost use Prim.Native.Nat.{_≤_};
 ghost use lib.ListN.{length};
 ghost use Rattle.text.specs.Stretches.{refusalText};
 ghost use Rattle.console.specs.Streams.{Receives, Shows};
 
 // What is read at most: one byte more than an input may have, so that a longer one is refused.
-pub const ROOM: usize = LARGEST + 1;
+pub const ROOM: usize = LONGEST_INPUT + 1;
 
 // The most pixels of an input: each takes two of its bytes.
-pub const PIXELS: usize = LARGEST / 2;
+pub const PIXELS: usize = LONGEST_INPUT / 2;
 
 // How often a read or a write is tried that a signal interrupts each time before it moves a byte. Past that it has failed: nothing says that signals end, and
 // every loop must.
