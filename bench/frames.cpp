@@ -68,9 +68,9 @@ static void check_small()
             leaders.follow(n, opened);
         }
         for (long spare : {ample(src), least_for_highest(src)})
-            expect(sixteen(bench_highest, src, length, ours, scratch, spare) && ours.bytes == leaders.highest.bytes, "The highest opening differs from its definition", {}, length);
+            expect(sixteen(c_highest, src, length, ours, scratch, spare) && ours.bytes == leaders.highest.bytes, "The highest opening differs from its definition", {}, length);
         for (long spare : {ample(src), least_for_direction(src)})
-            expect(sixteen(bench_direction_frame, src, length, ours, scratch, spare) && ours.bytes == leaders.direction.bytes, "The direction frame differs from its definition", {}, length);
+            expect(sixteen(c_direction_frame, src, length, ours, scratch, spare) && ours.bytes == leaders.direction.bytes, "The direction frame differs from its definition", {}, length);
     }
 }
 
@@ -141,10 +141,10 @@ void Bench::measure_all()
             for (Direction d : SIXTEEN)
                 expect(open(src, d, LENGTHS[i], ours, scratch), "The opening is refused", d, LENGTHS[i]);
         });
-        highest[i] = time_sixteen(bench_highest, LENGTHS[i], ample(src), leaders.highest);
-        highest_least[i] = time_sixteen(bench_highest, LENGTHS[i], least_for_highest(src), leaders.highest);
-        direction[i] = time_sixteen(bench_direction_frame, LENGTHS[i], ample(src), leaders.direction);
-        direction_least[i] = time_sixteen(bench_direction_frame, LENGTHS[i], least_for_direction(src), leaders.direction);
+        highest[i] = time_sixteen(c_highest, LENGTHS[i], ample(src), leaders.highest);
+        highest_least[i] = time_sixteen(c_highest, LENGTHS[i], least_for_highest(src), leaders.highest);
+        direction[i] = time_sixteen(c_direction_frame, LENGTHS[i], ample(src), leaders.direction);
+        direction_least[i] = time_sixteen(c_direction_frame, LENGTHS[i], least_for_direction(src), leaders.direction);
     }
 }
 

@@ -9,7 +9,7 @@ static const long W = 4096, H = 4096, STRIDE = 4160;
 int main()
 {
     std::vector<uint8_t> frame(STRIDE * (H - 1) + W, 7), line(W);
-    auto gather = [&](int64_t number) { return bench_gather(frame.data(), frame.size(), W, H, STRIDE, 1, 1, number, line.data(), line.size()); };
+    auto gather = [&](int64_t number) { return c_gather(frame.data(), frame.size(), W, H, STRIDE, 1, 1, number, line.data(), line.size()); };
     std::printf("\n## Gathering\n\nA line of a %ld x %ld frame in direction (1, 1), nanoseconds a call, best of 15.\n\n| pixels | call |\n|---|---|\n", W, H);
     double cost[2];
     int64_t numbers[2] = {W - 10, 0}; // lines of 10 pixels and of 4,096

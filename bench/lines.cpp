@@ -17,9 +17,9 @@ int main()
     std::printf("| length | erode | dilate | open_line | stack in C | ratio |\n|---|---|---|---|---|---|\n");
     for (long L : {5, 21, 101, 401}) {
         long count = N - L + 1;
-        auto erode = [&] { for (long y = 0; y < N; y++) bench_erode(&picture[y * N], N, L, &eroded[y * N], N); };
-        auto dilate = [&] { for (long y = 0; y < N; y++) bench_dilate(&eroded[y * N], count, L, &ours[y * N], N); };
-        auto open = [&] { for (long y = 0; y < N; y++) bench_open_line(&picture[y * N], N, L, &ours[y * N], N, scratch.data(), scratch.size()); };
+        auto erode = [&] { for (long y = 0; y < N; y++) c_erode(&picture[y * N], N, L, &eroded[y * N], N); };
+        auto dilate = [&] { for (long y = 0; y < N; y++) c_dilate(&eroded[y * N], count, L, &ours[y * N], N); };
+        auto open = [&] { for (long y = 0; y < N; y++) c_open_line(&picture[y * N], N, L, &ours[y * N], N, scratch.data(), scratch.size()); };
         auto stack = [&] { for (long y = 0; y < N; y++) stack_open(&picture[y * N], N, L, &theirs[y * N]); };
         double pixels = double(N) * N;
         double e = nanoseconds_a_pixel(pixels, 15, 2, erode);

@@ -13,7 +13,7 @@ using Sums = std::vector<uint64_t>;
 
 static bool sum(const Frame &src, Direction d, Sums &sums, Picture &scratch)
 {
-    return bench_sums_of_frame(src.bytes.data(), src.bytes.size(), src.width, src.height, src.stride, d.p, d.q, sums.data(), sums.size(), scratch.data(), scratch.size()).number == 0;
+    return c_sums_of_frame(src.bytes.data(), src.bytes.size(), src.width, src.height, src.stride, d.p, d.q, sums.data(), sums.size(), scratch.data(), scratch.size()).number == 0;
 }
 
 // The total of the opened pixels.

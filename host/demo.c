@@ -29,10 +29,10 @@ static int done(const char *who, uint64_t number, uint64_t figure)
 static int opened(Demo *d)
 {
     const Picture *p = &d->picture;
-    Answer a = demo_highest(p->pixels, p->bytes, p->width, p->height, p->width, d->length, d->highest, p->bytes, d->scratch, d->spare);
+    Answer a = c_highest(p->pixels, p->bytes, p->width, p->height, p->width, d->length, d->highest, p->bytes, d->scratch, d->spare);
     if (!done("highest", a.number, a.figure))
         return 0;
-    a = demo_directions(p->pixels, p->bytes, p->width, p->height, p->width, d->length, d->directions, p->bytes, d->scratch, d->spare);
+    a = c_direction_frame(p->pixels, p->bytes, p->width, p->height, p->width, d->length, d->directions, p->bytes, d->scratch, d->spare);
     return done("direction_frame", a.number, a.figure);
 }
 
@@ -171,11 +171,11 @@ static void print_sums(unsigned number, Direction by, const uint64_t *sums)
     for (size_t from = 0, to = 4; to <= BINS; from = to, to *= 2)
         printf(" %9" PRIu64, total(sums, from, to));
     printf(" %9" PRIu64, sums[BINS]);
-    uint32_t refused = demo_number(sums, BINS + 1);
+    uint32_t refused = c_number(sums, BINS + 1);
     if (refused)
         printf("   refused, %" PRIu32 "\n", refused);
     else
-        printf("  %6.2f %6.3f\n", demo_mean(sums, BINS + 1), demo_share(sums, BINS + 1));
+        printf("  %6.2f %6.3f\n", c_mean(sums, BINS + 1), c_share(sums, BINS + 1));
 }
 
 /* One row a direction; whether each adds up to the light of the picture. */
@@ -189,7 +189,7 @@ static int print_table(const Demo *d)
     printf("direction          1-4       5-8      9-16     17-32     33-64    longer    mean  share\n");
     for (unsigned n = 0; n < DIRECTIONS; n++) {
         Direction by = direction_numbered(n);
-        Answer a = demo_sums(p->pixels, p->bytes, p->width, p->height, p->width, by.p, by.q, sums, BINS + 1, d->scratch, d->spare);
+        Answer a = c_sums_of_frame(p->pixels, p->bytes, p->width, p->height, p->width, by.p, by.q, sums, BINS + 1, d->scratch, d->spare);
         if (!done("sums_of_frame", a.number, a.figure))
             return 0;
         print_sums(n, by, sums);

@@ -35,7 +35,8 @@ extern "C" {
  *   7   the scratch too short                                     figure: the bytes it needs
  *
  * The three blocks must not overlap, and no pointer may be null, not even for a block of no bytes. Nothing is kept after the call, and no memory is taken
- * but less than a kilobyte of stack.
+ * but less than 16 kilobytes of stack. A call takes some 9: 8,192 bytes are levels, for lines that go down the rows, or hold a row of 4,096 marks, for
+ * shallow ones. The first call takes some 3 more where the system's loader looks up memcpy and memset only as they are called.
  */
 uint64_t fibre_open_frame(const uint8_t *src, size_t src_bytes, size_t width, size_t height, size_t stride, int64_t p, int64_t q, size_t length,
                           uint8_t *dst, size_t dst_bytes, uint8_t *scratch, size_t scratch_bytes);

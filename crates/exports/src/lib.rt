@@ -1,7 +1,9 @@
-// The calls that the benchmark (bench/) measures, each under a name that C can link. The product's own entry for C is another (include/).
+// The calls that the benchmark (bench/) and the demonstration (host/demo.c) make, each under a name that C can link (host/calls.h). The product's own entry
+// for C is another (include/fibre.h).
 use answer::Answer;
 use frame::Direction;
 use frame::Shape;
+ghost use mathlib.Core.Path.{_≡_};
 ghost use Rattle.frame.specs.Direction.{dir};
 ghost use Rattle.frame.specs.Shape.{shape};
 ghost use Rattle.gathering.specs.Gathering.{Gathers};
@@ -11,23 +13,24 @@ ghost use Rattle.line.specs.Opening.{OpensLine};
 ghost use Rattle.opening.specs.Sixteen.{FindsHighest};
 ghost use Rattle.opening.specs.Directions.{FindsDirections};
 ghost use Rattle.sizes.specs.Frame.{SumsFrame};
+ghost use Rattle.sizes.specs.Summary.{summaryOf};
 
 #[no_mangle]
-pub extern "C" fn bench_erode(src: &[u8], length: usize, dst: &mut [u8]) -> Answer
+pub extern "C" fn c_erode(src: &[u8], length: usize, dst: &mut [u8]) -> Answer
     ensures { λ r. ⌜ ErodesLine (now (src .entry)) length (now (dst .entry)) (now (dst .exit)) r ⌝ }
 {
     line::erode(src, length, dst)
 }
 
 #[no_mangle]
-pub extern "C" fn bench_dilate(src: &[u8], length: usize, dst: &mut [u8]) -> Answer
+pub extern "C" fn c_dilate(src: &[u8], length: usize, dst: &mut [u8]) -> Answer
     ensures { λ r. ⌜ DilatesLine (now (src .entry)) length (now (dst .entry)) (now (dst .exit)) r ⌝ }
 {
     line::dilate(src, length, dst)
 }
 
 #[no_mangle]
-pub extern "C" fn bench_open_line(
+pub extern "C" fn c_open_line(
     src: &[u8],
     length: usize,
     dst: &mut [u8],
@@ -39,7 +42,7 @@ pub extern "C" fn bench_open_line(
 }
 
 #[no_mangle]
-pub extern "C" fn bench_gather(
+pub extern "C" fn c_gather(
     src: &[u8],
     width: usize,
     height: usize,
@@ -51,16 +54,16 @@ pub extern "C" fn bench_gather(
 ) -> Answer
     ensures { λ r. ⌜ Gathers (now (src .entry)) (shape width height stride) (dir p q) line (now (dst .entry)) (now (dst .exit)) r ⌝ }
 {
-    let shape = Shape {
+    let frame = Shape {
         width,
         height,
         stride,
     };
-    gathering::gather(src, shape, Direction { p, q }, line, dst)
+    gathering::gather(src, frame, Direction { p, q }, line, dst)
 }
 
 #[no_mangle]
-pub extern "C" fn bench_highest(
+pub extern "C" fn c_highest(
     src: &[u8],
     width: usize,
     height: usize,
@@ -71,16 +74,16 @@ pub extern "C" fn bench_highest(
 ) -> Answer
     ensures { λ r. ⌜ FindsHighest (now (src .entry)) (shape width height stride) length (now (dst .entry)) (now (dst .exit)) (now (scratch .entry)) (now (scratch .exit)) r ⌝ }
 {
-    let shape = Shape {
+    let frame = Shape {
         width,
         height,
         stride,
     };
-    opening::highest(src, shape, length, dst, scratch)
+    opening::highest(src, frame, length, dst, scratch)
 }
 
 #[no_mangle]
-pub extern "C" fn bench_direction_frame(
+pub extern "C" fn c_direction_frame(
     src: &[u8],
     width: usize,
     height: usize,
@@ -91,16 +94,16 @@ pub extern "C" fn bench_direction_frame(
 ) -> Answer
     ensures { λ r. ⌜ FindsDirections (now (src .entry)) (shape width height stride) length (now (dst .entry)) (now (dst .exit)) (now (scratch .entry)) (now (scratch .exit)) r ⌝ }
 {
-    let shape = Shape {
+    let frame = Shape {
         width,
         height,
         stride,
     };
-    opening::direction_frame(src, shape, length, dst, scratch)
+    opening::direction_frame(src, frame, length, dst, scratch)
 }
 
 #[no_mangle]
-pub extern "C" fn bench_sums_of_frame(
+pub extern "C" fn c_sums_of_frame(
     src: &[u8],
     width: usize,
     height: usize,
@@ -112,10 +115,35 @@ pub extern "C" fn bench_sums_of_frame(
 ) -> Answer
     ensures { λ r. ⌜ SumsFrame (now (src .entry)) (shape width height stride) (dir p q) (now (sums .entry)) (now (sums .exit)) (now (scratch .entry)) (now (scratch .exit)) r ⌝ }
 {
-    let shape = Shape {
+    let frame = Shape {
         width,
         height,
         stride,
     };
-    sizes::sums_of_frame(src, shape, Direction { p, q }, sums, scratch)
+    sizes::sums_of_frame(src, frame, Direction { p, q }, sums, scratch)
+}
+
+// The summary comes back one number at a time: its record is not laid out for C.
+#[no_mangle]
+pub extern "C" fn c_mean(sums: &[u64]) -> f64
+    ensures { λ x. ⌜ x ≡ summaryOf (now (sums .entry)) .mean ⌝ }
+{
+    let s = sizes::summarize(sums);
+    s.mean
+}
+
+#[no_mangle]
+pub extern "C" fn c_share(sums: &[u64]) -> f64
+    ensures { λ x. ⌜ x ≡ summaryOf (now (sums .entry)) .share ⌝ }
+{
+    let s = sizes::summarize(sums);
+    s.share
+}
+
+#[no_mangle]
+pub extern "C" fn c_number(sums: &[u64]) -> u32
+    ensures { λ n. ⌜ n ≡ summaryOf (now (sums .entry)) .number ⌝ }
+{
+    let s = sizes::summarize(sums);
+    s.number
 }

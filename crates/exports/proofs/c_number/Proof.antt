@@ -2,8 +2,8 @@
 use mathlib.Core.Path.{ap}
 use borrow.Author.Needs.{needs}
 use Rattle.sizes.specs.declared.summary.Summary.{Summary}
-use Rattle.demo.proofs.demo_number.Statement.{statement}
-use Rattle.demo.proofs.demo_number.Tie as tie
+use Rattle.exports.proofs.c_number.Statement.{statement}
+use Rattle.exports.proofs.c_number.Tie as tie
 
 summarize-requires : tie.Need-summarize-requires
 summarize-requires c κs = search needs
@@ -11,5 +11,5 @@ summarize-requires c κs = search needs
 returns : tie.Need-returns
 returns c = ap (λ (s : Summary). s .number) (c .summarize .ensures)
 
-pub demo-number-spec : {M : Type 1} → statement M
-demo-number-spec = tie.close (tie.spec summarize-requires returns)
+pub c-number-spec : {M : Type 1} → statement M
+c-number-spec = tie.close (tie.spec summarize-requires returns)
