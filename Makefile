@@ -8,6 +8,7 @@
 
 test:
 	@rt fmt --check
+	@check/citations
 	@check/vectors
 	@check/listing
 	@check/run
