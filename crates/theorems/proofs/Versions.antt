@@ -6,6 +6,7 @@
 --   highest-dark, highest-unwritten, directions-dark, directions-unwritten    the highest opening or its directions, 0 everywhere or not written
 --   first-row-only, first-line-only   a frame opening that treats its first line and copies the rest, along and on the diagonal
 --   count-invented, whole-line-only   a listing with an invented count, or with only the whole line
+--   bookmark-invented                 a step of a reading that hands back another bookmark
 --   across-for-along, rows-exchanged, numbers-exchanged    results filed under the other's direction: of a frame opening, the rose and the direction frame
 --   tie-to-last                       a tie given to the last
 --   leading-zero                      a reading that takes a number with a leading zero
@@ -42,6 +43,9 @@ use Rattle.opening.specs.Sixteen.{FindsHighest}
 use Rattle.opening.specs.Directions.{FindsDirections}
 use Rattle.opening.specs.Host.{HostOpens}
 use Rattle.bright.specs.declared.Stretch.{Stretch}
+use Rattle.bright.specs.declared.Step.{Step}
+use Rattle.bright.specs.Reading.{stepFrom}
+use Rattle.bright.specs.Generator.{run8, stackOf, beginning, Follows}
 use Rattle.bright.specs.Stretches as stretching
 use Rattle.bright.specs.Stretches.{stretches}
 use Rattle.bright.specs.Listing.{ListsLine}
@@ -257,6 +261,11 @@ whole-line-only {rest} p =
     p .written ∙ ap (λ (a : Answer). after a (front (stretches line) blank) blank) (p .answers) in
     let first : _≡_ {A = ℕ} 0 1 = ap (λ (l : List Stretch). getD l 0 (s 0 0 0 0) .start) e in
     omega (arith, first)
+
+-- after the first step the pixels 3 5 5 are read, and the run of 3 is open
+pub bookmark-invented : {t′ : List ℕ} {r : Step} → (r .bookmark ≡ record { read = 3; depth = 1 } → ⊥) → Follows run8 line spare beginning t′ r → ⊥
+unfolding stackOf stepFrom
+bookmark-invented another p = another (ap (λ (r : Step). r .bookmark) (p .steps))
 
 -- ---- 'Directions filed in order of arrival, or a tie given to the last' (a trap that no marked example holds)
 
