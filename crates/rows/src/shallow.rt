@@ -94,7 +94,7 @@ fn open_along(buf: &mut [Pixel], bends: &mut [u8], s: Sweep, length: usize)
     ensures { λ _. ⌜ OpensLines s length (now (buf .entry)) (now (buf .exit)) ⌝ }
 {
     if s.majors < length {
-        clear_rows(buf, s.minor, s.majors, 0, s.minors);
+        clear_rows(buf, s.minor_step, s.majors, 0, s.minors);
         return;
     }
     grow_along(buf, bends, s, length, true);

@@ -19,7 +19,7 @@ fn start(s: Sweep, forth: bool, t: usize) -> usize
     requires { ⌜ Sane s × (t < s .minors) ⌝ }
     ensures { λ n. ⌜ n ≡ rowStart s forth t ⌝ }
 {
-    row_of(s.minors, t, forth) * s.minor
+    row_of(s.minors, t, forth) * s.minor_step
 }
 
 // The n pixels from `at` on meet those from `near` on, which stand in the frame's last row: the partner of a marked one would stand one row further.

@@ -109,9 +109,9 @@ module _ {b b₁ b₂ : List ℕ} where
 
 -- the bytes of a sweep are those of the frame's pixels, by columns where it is shallow and by rows where it is steep
 module _ {sh : Shape} {F : ℕ → ℕ → ℕ} {b b₁ b₂ : List ℕ} (s : Sweep) (ok : isFrame sh ≡ true) where
-  columns-once : (s .major ≡ 1) × (s .minor ≡ sh .stride) × (s .majors ≡ sh .width) × (s .minors ≡ sh .height)
+  columns-once : (s .«major_step» ≡ 1) × (s .«minor_step» ≡ sh .stride) × (s .majors ≡ sh .width) × (s .minors ≡ sh .height)
       → PixelsAre (spot s) (s .majors) (s .minors) F b b₁ → PixelsAre (spot s) (s .majors) (s .minors) F b b₂ → b₁ ≡ b₂
-  columns-once (major, minor, majors, minors) p q =
+  columns-once (major-step, minor-step, majors, minors) p q =
       frames-same sh b₁ b₂ ok (p .same ∙ sym (q .same))
       (λ x y h l. subst (λ (i : ℕ). getD b₁ i 0 ≡ getD b₂ i 0) (byte x y) (p .within x y (omega arith) (omega arith) ∙ sym (q .within x y (omega arith) (omega arith))))
       (λ k gap.
@@ -119,11 +119,11 @@ module _ {sh : Shape} {F : ℕ → ℕ → ℕ} {b b₁ b₂ : List ℕ} (s : Sw
       p .other k none ∙ sym (q .other k none))
     where
       byte : (x y : ℕ) → spot s x y ≡ place sh (at x y)
-      byte x y = rw (major, minor) (omega arith)
+      byte x y = rw (major-step, minor-step) (omega arith)
 
-  rows-once : (s .major ≡ sh .stride) × (s .minor ≡ 1) × (s .majors ≡ sh .height) × (s .minors ≡ sh .width)
+  rows-once : (s .«major_step» ≡ sh .stride) × (s .«minor_step» ≡ 1) × (s .majors ≡ sh .height) × (s .minors ≡ sh .width)
       → PixelsAre (spot s) (s .majors) (s .minors) F b b₁ → PixelsAre (spot s) (s .majors) (s .minors) F b b₂ → b₁ ≡ b₂
-  rows-once (major, minor, majors, minors) p q =
+  rows-once (major-step, minor-step, majors, minors) p q =
       frames-same sh b₁ b₂ ok (p .same ∙ sym (q .same))
       (λ x y h l. subst (λ (i : ℕ). getD b₁ i 0 ≡ getD b₂ i 0) (byte y x) (p .within y x (omega arith) (omega arith) ∙ sym (q .within y x (omega arith) (omega arith))))
       (λ k gap.
@@ -131,15 +131,15 @@ module _ {sh : Shape} {F : ℕ → ℕ → ℕ} {b b₁ b₂ : List ℕ} (s : Sw
       p .other k none ∙ sym (q .other k none))
     where
       byte : (y x : ℕ) → spot s y x ≡ place sh (at x y)
-      byte y x = rw (major, minor) (omega arith)
+      byte y x = rw (major-step, minor-step) (omega arith)
 
 columns : (sh : Shape) (d : Direction) → shallow d ≡ true
-    → (sweepOf sh d .major ≡ 1) × (sweepOf sh d .minor ≡ sh .stride) × (sweepOf sh d .majors ≡ sh .width) × (sweepOf sh d .minors ≡ sh .height)
+    → (sweepOf sh d .«major_step» ≡ 1) × (sweepOf sh d .«minor_step» ≡ sh .stride) × (sweepOf sh d .majors ≡ sh .width) × (sweepOf sh d .minors ≡ sh .height)
 unfolding sweep.sweepOf
 columns sh d e = (rw e, rw e, rw e, rw e)
 
 rows : (sh : Shape) (d : Direction) → shallow d ≡ false
-    → (sweepOf sh d .major ≡ sh .stride) × (sweepOf sh d .minor ≡ 1) × (sweepOf sh d .majors ≡ sh .height) × (sweepOf sh d .minors ≡ sh .width)
+    → (sweepOf sh d .«major_step» ≡ sh .stride) × (sweepOf sh d .«minor_step» ≡ 1) × (sweepOf sh d .majors ≡ sh .height) × (sweepOf sh d .minors ≡ sh .width)
 unfolding sweep.sweepOf
 rows sh d e = (rw e, rw e, rw e, rw e)
 

@@ -34,10 +34,10 @@ use Rattle.frame.specs.declared.shape.Shape.{Shape}
 use Rattle.frame.specs.Direction.{numberedOf}
 use Rattle.frame.specs.Shape.{isFrame, needed}
 use Rattle.frame.specs.Lines.{Pixel, at, lineOf, pixels, place, gathered, lineRead, pixelsFor, indexIn}
+use Rattle.frame.specs.Painted.{Gap}
 use Rattle.frame.proofs.Shapes.{framed}
 use Rattle.frame.proofs.Partition.{flat}
 use Rattle.frame.proofs.Pixels.{its-line}
-use Rattle.frame.proofs.ByLines.{Gap}
 use Rattle.gathering.specs.Rows.{hasRow, LendsRow}
 use Rattle.gathering.proofs.LentRows.{row-from, row-length, row-pixel}
 use Rattle.opening.specs.Pixels.{openedPixel, inDirection}

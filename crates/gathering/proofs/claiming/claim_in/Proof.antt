@@ -57,7 +57,7 @@ next c =
     record {
       below = omega (arith, pre .6 .fits);
       on = on;
-      minor = omega (arith, hits (a .s) (a .t .index) (a .t .from + i) on, c .minor-of .ensures);
+      «minor_step» = omega (arith, hits (a .s) (a .t .index) (a .t .from + i) on, c .minor-of .ensures);
     }
 
 add-byte-of : tie.Need-add-byte-of Inv-loop μ-loop
@@ -66,7 +66,7 @@ add-byte-of c =
     omega (arith, pre .0, next c .below)
 
 byte-of-requires : tie.Need-byte-of-requires Inv-loop μ-loop
-byte-of-requires c κs = (c .before .before .before .before .before .before .pre .0, next c .below, next c .minor)
+byte-of-requires c κs = (c .before .before .before .before .before .before .pre .0, next c .below, next c .«minor_step»)
 
 add-byte-of-2 : tie.Need-add-byte-of-2 Inv-loop μ-loop
 add-byte-of-2 c =
@@ -76,7 +76,7 @@ add-byte-of-2 c =
 byte-of-requires-2 : tie.Need-byte-of-requires-2 Inv-loop μ-loop
 byte-of-requires-2 c κs =
     let pre = c .before .before .before .before .before .before .before .pre in
-    (pre .1, omega (arith, next (c .before) .below, pre .2 .majors), omega (arith, next (c .before) .minor, pre .2 .minors))
+    (pre .1, omega (arith, next (c .before) .below, pre .2 .majors), omega (arith, next (c .before) .«minor_step», pre .2 .minors))
 
 -- its bytes in the two frames
 at-is : (c : tie.After-byte-of2 Inv-loop μ-loop)
@@ -84,7 +84,7 @@ at-is : (c : tie.After-byte-of2 Inv-loop μ-loop)
 unfolding sweep.cell
 at-is c =
     let a = c .before .before .before .before .before .before .before .before .args in
-    c .before .byte-of .ensures ∙ ap (λ (j : ℕ). (a .t .from + c .before .before .before .before .loop .i) * a .s .major + j * a .s .minor) (c .before .before .minor-of .ensures)
+    c .before .byte-of .ensures ∙ ap (λ (j : ℕ). (a .t .from + c .before .before .before .before .loop .i) * a .s .«major_step» + j * a .s .«minor_step») (c .before .before .minor-of .ensures)
 
 to-is : (c : tie.After-byte-of2 Inv-loop μ-loop)
     → (let a = c .before .before .before .before .before .before .before .before .args in c .byte-of2 .result ≡ cell (a .b) (a .t .index) (a .t .from + c .before .before .before .before .loop .i))
@@ -93,7 +93,7 @@ to-is c =
     let a = c .before .before .before .before .before .before .before .before .args in
     let i = a .t .from + c .before .before .before .before .loop .i in
     let minor = c .before .before .minor-of .ensures ∙ ap (λ (t : ℕ). a .t .index - t) (sym (c .before .before .before .before .before .before .before .before .pre .2 .aside i)) in
-    c .byte-of2 .ensures ∙ ap (λ (j : ℕ). i * a .b .major + j * a .b .minor) minor
+    c .byte-of2 .ensures ∙ ap (λ (j : ℕ). i * a .b .«major_step» + j * a .b .«minor_step») minor
 
 at-reached : (c : tie.After-byte-of2 Inv-loop μ-loop) → c .before .byte-of .result < length (c .before .before .before .before .loop .holders)
 at-reached c =
