@@ -5,7 +5,7 @@
 --   highestAt f sh L x y      the greatest of these over the sixteen
 --   firstGreatest v n         the lowest number below n at which v is greatest
 --   directionAt f sh L x y    the lowest direction number that reaches the highest
--- Laws: opening/proofs/Bridge, Leaders.
+-- Laws: opening/proofs/Along, Inplace, Leaders.
 use mathlib.Core.List.{List}
 use Prim.Native.Nat.{ℕ}
 use lib.Dec.{eqb}

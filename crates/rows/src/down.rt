@@ -65,8 +65,8 @@ fn sweep_down(shape: Shape, d: Direction) -> Sweep
     s
 }
 
-// Opens the frame that stands in buf in a direction whose lines go down the rows: a steep one, or one of the two diagonals. Where rule 1, 2, 3 or 5 would refuse, or
-// the direction is flatter than a diagonal, nothing changes.
+// Opens the frame that stands in buf in a direction whose lines go down the rows: a steep one, or one of the two diagonals. Where rule 1, 2 or 5 would refuse, the
+// length is 0, or the direction is flatter than a diagonal, nothing changes.
 pub fn open_down(buf: &mut [Pixel], shape: Shape, d: Direction, length: usize)
     ensures { λ _. ⌜ OpensDown shape d length (now (buf .entry)) (now (buf .exit)) ⌝ }
 {

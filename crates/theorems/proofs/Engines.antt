@@ -3,10 +3,9 @@
 --   meet-once, meet-bent-once, meet-by-once, fade-once, blacken-once, blacken-bent-once, copy-once, claim-once    the passes over pixels
 --   open-down-once, open-shallow-once                            a frame opened where it stands
 --   claim-line-once                                              a line that claims pixels
--- Marks are the exception, as scratch is elsewhere.
 -- Assumes nothing.
 use mathlib.Core.Path.{_≡_, refl, sym, subst, _∙_}
-use mathlib.Core.Bool.{Bool, true, false}
+use mathlib.Core.Bool.{Bool, true, false, _&&_}
 use mathlib.Core.Logic.{_⊎_, inl, inr, ⊎-elim}
 use mathlib.Core.List.{List}
 use Prim.Native.Nat.{ℕ, _+_, _≤_, _<_}
@@ -14,20 +13,20 @@ use native.Mathlib.Omega.{arith}
 use lib.IntN.{ℤ}
 use lib.ListN.{length, getD}
 use Rattle.lists.specs.Stores.{Filled}
-use Rattle.lists.proofs.Cases.{less-or-not, both-left, both-right}
+use Rattle.lists.proofs.Cases.{less-or-not, both-left}
 use Rattle.lists.proofs.Stores.{filled-once}
 use Rattle.passes.specs.Passes.{Ahead, Fits, Parted, Meets, MeetsBent, MeetsBy, Fades, Clears, ClearsBent, Copies, Claims}
 use Rattle.frame.specs.declared.direction.Direction.{Direction}
 use Rattle.frame.specs.declared.shape.Shape.{Shape}
 use Rattle.frame.specs.declared.sweep.Sweep.{Sweep}
-use Rattle.frame.specs.Direction.{shallow}
+use Rattle.frame.specs.Direction.{shallow, goesDown}
 use Rattle.frame.specs.Shape.{isFrame}
 use Rattle.frame.specs.Lines.{at, place}
 use Rattle.frame.specs.Sweep as sweep
 use Rattle.frame.specs.Sweep.{sweepOf}
 use Rattle.frame.proofs.ByLines.{frames-same}
 use Rattle.gathering.specs.Claiming.{ClaimsLine}
-use Rattle.rows.specs.Rows.{spot, PixelsAre, canOpen, opensDown, OpensDown, opensShallow, OpensShallow}
+use Rattle.rows.specs.Rows.{spot, PixelsAre, canOpen, OpensIf, OpensDown, OpensShallow}
 
 -- ---- passes
 
@@ -143,24 +142,24 @@ rows : (sh : Shape) (d : Direction) → shallow d ≡ false
 unfolding sweep.sweepOf
 rows sh d e = (rw e, rw e, rw e, rw e)
 
-pub open-down-once : {sh : Shape} {d : Direction} {L : ℕ} {b b₁ b₂ : List ℕ} → OpensDown sh d L b b₁ → OpensDown sh d L b b₂ → b₁ ≡ b₂
-open-down-once {sh} {d} {L} {b} {b₁} {b₂} p q = go (opensDown sh d L b) refl
+-- whichever way the lines have to go
+opens-once : (sh : Shape) (d : Direction) (L : ℕ) (way : Bool) {b b₁ b₂ : List ℕ} → OpensIf (canOpen sh d L (length b) && way) (sweepOf sh d) L b b₁
+    → OpensIf (canOpen sh d L (length b) && way) (sweepOf sh d) L b b₂ → b₁ ≡ b₂
+opens-once sh d L way {b} {b₁} {b₂} p q = go (canOpen sh d L (length b) && way) refl
   where
-    either : (t : Bool) → shallow d ≡ t → opensDown sh d L b ≡ true → b₁ ≡ b₂
-    either true flat e = columns-once (sweepOf sh d) (both-left (isFrame sh) _ (both-left (canOpen sh d L (length b)) _ e)) (columns sh d flat) (p .done e) (q .done e)
-    either false steep e = rows-once (sweepOf sh d) (both-left (isFrame sh) _ (both-left (canOpen sh d L (length b)) _ e)) (rows sh d steep) (p .done e) (q .done e)
+    either : (t : Bool) → shallow d ≡ t → (canOpen sh d L (length b) && way) ≡ true → b₁ ≡ b₂
+    either true flat e = columns-once (sweepOf sh d) (both-left (isFrame sh) _ (both-left (canOpen sh d L (length b)) way e)) (columns sh d flat) (p .done e) (q .done e)
+    either false steep e = rows-once (sweepOf sh d) (both-left (isFrame sh) _ (both-left (canOpen sh d L (length b)) way e)) (rows sh d steep) (p .done e) (q .done e)
 
-    go : (t : Bool) → opensDown sh d L b ≡ t → b₁ ≡ b₂
+    go : (t : Bool) → (canOpen sh d L (length b) && way) ≡ t → b₁ ≡ b₂
     go true e = either (shallow d) refl e
     go false e = p .none e ∙ sym (q .none e)
 
-pub open-shallow-once : {sh : Shape} {d : Direction} {L : ℕ} {b b₁ b₂ m m₁ m₂ : List ℕ} → OpensShallow sh d L b b₁ m m₁ → OpensShallow sh d L b b₂ m m₂ → b₁ ≡ b₂
-open-shallow-once {sh} {d} {L} {b} {b₁} {b₂} {m} p q = go (opensShallow sh d L b (length m)) refl
-  where
-    go : (t : Bool) → opensShallow sh d L b (length m) ≡ t → b₁ ≡ b₂
-    go true e =
-        columns-once (sweepOf sh d) (both-left (isFrame sh) _ (both-left (canOpen sh d L (length b)) _ e)) (columns sh d (both-left (shallow d) _ (both-right (canOpen sh d L (length b)) _ e))) (p .done e) (q .done e)
-    go false e = p .none e .0 ∙ sym (q .none e .0)
+pub open-down-once : {sh : Shape} {d : Direction} {L : ℕ} {b b₁ b₂ : List ℕ} → OpensDown sh d L b b₁ → OpensDown sh d L b b₂ → b₁ ≡ b₂
+open-down-once {sh} {d} {L} = opens-once sh d L (goesDown d)
+
+pub open-shallow-once : {sh : Shape} {d : Direction} {L : ℕ} {b b₁ b₂ : List ℕ} → OpensShallow sh d L b b₁ → OpensShallow sh d L b b₂ → b₁ ≡ b₂
+open-shallow-once {sh} {d} {L} = opens-once sh d L (shallow d)
 
 -- ---- a line put back
 

@@ -57,7 +57,7 @@ next c =
     record {
       below = omega (arith, pre .6 .fits);
       on = on;
-      «minor_step» = omega (arith, hits (a .s) (a .t .index) (a .t .from + i) on, c .minor-of .ensures);
+      minor = omega (arith, hits (a .s) (a .t .index) (a .t .from + i) on, c .minor-of .ensures);
     }
 
 add-byte-of : tie.Need-add-byte-of Inv-loop μ-loop
@@ -66,7 +66,7 @@ add-byte-of c =
     omega (arith, pre .0, next c .below)
 
 byte-of-requires : tie.Need-byte-of-requires Inv-loop μ-loop
-byte-of-requires c κs = (c .before .before .before .before .before .before .pre .0, next c .below, next c .«minor_step»)
+byte-of-requires c κs = (c .before .before .before .before .before .before .pre .0, next c .below, next c .minor)
 
 add-byte-of-2 : tie.Need-add-byte-of-2 Inv-loop μ-loop
 add-byte-of-2 c =
@@ -76,7 +76,7 @@ add-byte-of-2 c =
 byte-of-requires-2 : tie.Need-byte-of-requires-2 Inv-loop μ-loop
 byte-of-requires-2 c κs =
     let pre = c .before .before .before .before .before .before .before .pre in
-    (pre .1, omega (arith, next (c .before) .below, pre .2 .majors), omega (arith, next (c .before) .«minor_step», pre .2 .minors))
+    (pre .1, omega (arith, next (c .before) .below, pre .2 .majors), omega (arith, next (c .before) .minor, pre .2 .minors))
 
 -- its bytes in the two frames
 at-is : (c : tie.After-byte-of2 Inv-loop μ-loop)
