@@ -1,5 +1,4 @@
 -- A frame treated line by line: what it says of each pixel.
---   Gap             a byte that is no pixel's
 --   frames-same     two frames that agree at each pixel and between the rows are the same
 --   one-outcome     one source and destination allow one outcome alone
 --   map-at          the j-th of what is made of each pixel of a list
@@ -21,14 +20,11 @@ use Rattle.frame.specs.declared.direction.Direction.{Direction}
 use Rattle.frame.specs.declared.shape.Shape.{Shape}
 use Rattle.frame.specs.Shape.{isFrame}
 use Rattle.frame.specs.Lines.{lineOf, Pixel, at, pixels, place, lineRead}
+use Rattle.frame.specs.Painted.{Gap}
 use Rattle.frame.specs.ByLines.{ByLines}
 use Rattle.frame.proofs.Shapes.{Framed, framed}
 use Rattle.frame.proofs.Partition.{flat}
 use Rattle.frame.proofs.Pixels.{on-its-line}
-
--- byte i is no pixel's
-abbrev pub Gap : Shape → ℕ → Type 0
-Gap sh i = (x y : ℕ) → x < sh .width → y < sh .height → i ≡ place sh (at x y) → ⊥
 
 -- ---- one outcome
 

@@ -21,7 +21,7 @@ use Rattle.lists.proofs.Picks.{each-mem, each-in, keep-mem, those-in}
 use Rattle.frame.specs.declared.direction.Direction.{Direction}
 use Rattle.frame.specs.declared.shape.Shape.{Shape}
 use Rattle.frame.specs.Direction.{shallow, opposite}
-use Rattle.frame.specs.Lines.{r, lineOf, eqZ, Pixel, at, onLine, pixels, place, empty, noLine, firstLine, lineCount}
+use Rattle.frame.specs.Lines.{r, lineOf, eqZ, Pixel, at, pixelOn, pixels, place, empty, noLine, firstLine, lineCount}
 use Rattle.frame.specs.Sweep.{sweepOf, shift, low, lines, hit, Accepted}
 use Rattle.frame.specs.Span.{spanFrom, spanEnd}
 use Rattle.frame.proofs.Numbers.{eqZ-true, eqZ-same, Index, indexed}
@@ -32,16 +32,16 @@ use Rattle.frame.proofs.Spans.{spans, pixels-span, past-lines, line-som
 -- ---- every pixel is on exactly one line
 
 byX : Shape → Direction → ℤ → List Pixel
-byX sh d k = each (λ (x : ℕ). each (λ (y : ℕ). onLine d k x y) (sh .height)) (sh .width)
+byX sh d k = each (λ (x : ℕ). each (λ (y : ℕ). pixelOn d k x y) (sh .height)) (sh .width)
 
 byY : Shape → Direction → ℤ → List Pixel
-byY sh d k = each (λ (y : ℕ). each (λ (x : ℕ). onLine d k x y) (sh .width)) (sh .height)
+byY sh d k = each (λ (y : ℕ). each (λ (x : ℕ). pixelOn d k x y) (sh .width)) (sh .height)
 
 by-major : (sh : Shape) (d : Direction) (k : ℤ) (t : Bool) → shallow d ≡ t → pixels sh d k ≡ cond t (byX sh d k) (byY sh d k)
 unfolding byX byY
 by-major sh d k t e = ap (λ (t : Bool). cond t (byX sh d k) (byY sh d k)) e
 
-at-is : (d : Direction) (k : ℤ) (x y x' y' : ℕ) → List·Memᴰ (at x y) (onLine d k x' y') → (x ≡ x') × (y ≡ y') × (lineOf d x y ≡ k)
+at-is : (d : Direction) (k : ℤ) (x y x' y' : ℕ) → List·Memᴰ (at x y) (pixelOn d k x' y') → (x ≡ x') × (y ≡ y') × (lineOf d x y ≡ k)
 at-is d k x y x' y' m =
     let h = keep-mem (eqZ (lineOf d x' y') k) (at x y) (at x' y') m in
     let p : x ≡ x' = ap (λ (c : Pixel). c .x) (h .1) in
@@ -55,13 +55,13 @@ its-line sh d k x y m = go (shallow d) refl
   where
     go : (t : Bool) → shallow d ≡ t → (x < sh .width) × (y < sh .height) × (lineOf d x y ≡ k)
     go true e =
-        let a = each-mem (λ (x : ℕ). each (λ (y : ℕ). onLine d k x y) (sh .height)) (sh .width) (at x y) (subst (List·Memᴰ (at x y)) (by-major sh d k true e) m) in
-        let b = each-mem (λ (y : ℕ). onLine d k (a .i) y) (sh .height) (at x y) (a .there) in
+        let a = each-mem (λ (x : ℕ). each (λ (y : ℕ). pixelOn d k x y) (sh .height)) (sh .width) (at x y) (subst (List·Memᴰ (at x y)) (by-major sh d k true e) m) in
+        let b = each-mem (λ (y : ℕ). pixelOn d k (a .i) y) (sh .height) (at x y) (a .there) in
         let c = at-is d k x y (a .i) (b .i) (b .there) in
         (omega (arith, c .0, a .below), omega (arith, c .1, b .below), c .2)
     go false e =
-        let a = each-mem (λ (y : ℕ). each (λ (x : ℕ). onLine d k x y) (sh .width)) (sh .height) (at x y) (subst (List·Memᴰ (at x y)) (by-major sh d k false e) m) in
-        let b = each-mem (λ (x : ℕ). onLine d k x (a .i)) (sh .width) (at x y) (a .there) in
+        let a = each-mem (λ (y : ℕ). each (λ (x : ℕ). pixelOn d k x y) (sh .width)) (sh .height) (at x y) (subst (List·Memᴰ (at x y)) (by-major sh d k false e) m) in
+        let b = each-mem (λ (x : ℕ). pixelOn d k x (a .i)) (sh .width) (at x y) (a .there) in
         let c = at-is d k x y (b .i) (a .i) (b .there) in
         (omega (arith, c .0, b .below), omega (arith, c .1, a .below), c .2)
 
@@ -70,18 +70,18 @@ pub on-its-line : (sh : Shape) (d : Direction) (x y : ℕ) → x < sh .width →
 unfolding byX byY
 on-its-line sh d x y h l = go (shallow d) refl
   where
-    here : List·Memᴰ (at x y) (onLine d (lineOf d x y) x y)
+    here : List·Memᴰ (at x y) (pixelOn d (lineOf d x y) x y)
     here = rw (eqZ-same (lineOf d x y) (lineOf d x y) refl) (List·Memᴰ·head refl)
 
     go : (t : Bool) → shallow d ≡ t → List·Memᴰ (at x y) (pixels sh d (lineOf d x y))
     go true e =
         subst (List·Memᴰ (at x y)) (sym (by-major sh d (lineOf d x y) true e))
-        (each-in (λ (x' : ℕ). each (λ (y' : ℕ). onLine d (lineOf d x y) x' y') (sh .height)) (sh .width) x (at x y) h
-        (each-in (λ (y' : ℕ). onLine d (lineOf d x y) x y') (sh .height) y (at x y) l here))
+        (each-in (λ (x' : ℕ). each (λ (y' : ℕ). pixelOn d (lineOf d x y) x' y') (sh .height)) (sh .width) x (at x y) h
+        (each-in (λ (y' : ℕ). pixelOn d (lineOf d x y) x y') (sh .height) y (at x y) l here))
     go false e =
         subst (List·Memᴰ (at x y)) (sym (by-major sh d (lineOf d x y) false e))
-        (each-in (λ (y' : ℕ). each (λ (x' : ℕ). onLine d (lineOf d x y) x' y') (sh .width)) (sh .height) y (at x y) l
-        (each-in (λ (x' : ℕ). onLine d (lineOf d x y) x' y) (sh .width) x (at x y) h here))
+        (each-in (λ (y' : ℕ). each (λ (x' : ℕ). pixelOn d (lineOf d x y) x' y') (sh .width)) (sh .height) y (at x y) l
+        (each-in (λ (x' : ℕ). pixelOn d (lineOf d x y) x' y) (sh .width) x (at x y) h here))
 
 pub exactly-one-line : (sh : Shape) (d : Direction) (x y : ℕ) → x < sh .width → y < sh .height
     → List·Memᴰ (at x y) (pixels sh d (lineOf d x y)) × ((k : ℤ) → List·Memᴰ (at x y) (pixels sh d k) → k ≡ lineOf d x y)

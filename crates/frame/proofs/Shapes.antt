@@ -98,9 +98,9 @@ module _ {sh : Shape} {d : Direction} (a : Accepted sh d) where
             majors = f .width;
             wide = f .high;
             minors = f .height;
-            major = omega arith;
+            «major_step» = omega arith;
             step = omega (arith, f);
-            minor = f .most;
+            «minor_step» = f .most;
             slow = slow;
             moves = omega (arith, v);
             run = v .left;
@@ -114,9 +114,9 @@ module _ {sh : Shape} {d : Direction} (a : Accepted sh d) where
             majors = f .height;
             wide = f .wide;
             minors = f .width;
-            major = f .most;
+            «major_step» = f .most;
             step = omega arith;
-            minor = omega arith;
+            «minor_step» = omega arith;
             slow = omega arith;
             moves = omega (arith, v);
             run = v .right;

@@ -1,5 +1,5 @@
 -- At which major coordinates a line has its pixels: a stretch, whose ends are found by division.
---   passed-is, skipped-is     the first coordinate at which more than so many minor steps are made
+--   passed-is, skipped-is     the first major coordinate at which a line has moved more than so far aside
 --   shift-falling, shift-rising, shift-le    by the slope's sign; a line moves aside by at most `top`
 --   from-falling, end-falling, from-rising, end-rising    its ends, by the slope's sign
 --   span-ordered, spans       the stretch of a line

@@ -67,8 +67,8 @@ pub cell-reach : (s : Sweep) (u i n : ℕ) → i < s .majors → hit s u i ≡ t
 unfolding cell
 cell-reach s u i n h e k =
     let a = hits s u i e in
-    let p : i * s .major ≤ (s .majors - 1) * s .major = mul-le-mul-right (s .major) (omega arith) in
-    let q : (u - shift s i) * s .minor ≤ (s .minors - 1) * s .minor = mul-le-mul-right (s .minor) (omega arith) in
+    let p : i * s .«major_step» ≤ (s .majors - 1) * s .«major_step» = mul-le-mul-right (s .«major_step») (omega arith) in
+    let q : (u - shift s i) * s .«minor_step» ≤ (s .minors - 1) * s .«minor_step» = mul-le-mul-right (s .«minor_step») (omega arith) in
     omega arith
 
 -- ---- the lines of a sweep
@@ -77,8 +77,8 @@ cell-reach s u i n h e k =
 unfoldable numberAt : Bool → ℕ → ℕ → ℕ → ℕ → ℤ
 numberAt f a b i j = pos j -ℤ cond f (negsuc 0) (pos 1) *ℤ pos (r a b i)
 
-module _ (m n major minor a b : ℕ) (moves : 1 ≤ a) where
-  number-is : (f : Bool) (i j : ℕ) → i < m → numberAt f a b i j ≡ subℕ (j + shift (sweeping m n major minor a b f) i) (low (sweeping m n major minor a b f))
+module _ (m n major-step minor-step a b : ℕ) (moves : 1 ≤ a) where
+  number-is : (f : Bool) (i j : ℕ) → i < m → numberAt f a b i j ≡ subℕ (j + shift (sweeping m n major-step minor-step a b f) i) (low (sweeping m n major-step minor-step a b f))
   unfolding numberAt shift low
   number-is true i j h = falling-is j (r a b i)
   number-is false i j h =
@@ -87,21 +87,21 @@ module _ (m n major minor a b : ℕ) (moves : 1 ≤ a) where
 
   module _ {A : Type 0} (f : Bool) (g : ℕ → ℕ → A) where
     swept : (u : ℕ)
-        → each (λ (i : ℕ). those (λ (j : ℕ). eqZ (numberAt f a b i j) (subℕ u (low (sweeping m n major minor a b f)))) (g i) n) m
-        ≡ those (hit (sweeping m n major minor a b f) u) (λ (i : ℕ). g i (u - shift (sweeping m n major minor a b f) i)) m
+        → each (λ (i : ℕ). those (λ (j : ℕ). eqZ (numberAt f a b i j) (subℕ u (low (sweeping m n major-step minor-step a b f)))) (g i) n) m
+        ≡ those (hit (sweeping m n major-step minor-step a b f) u) (λ (i : ℕ). g i (u - shift (sweeping m n major-step minor-step a b f) i)) m
     unfolding hit
     swept u =
-        let s = sweeping m n major minor a b f in
+        let s = sweeping m n major-step minor-step a b f in
         each-same _ _ m (λ i h.
         those-same _ _ (g i) (g i) n (λ j l. ap (λ (z : ℤ). eqZ z (subℕ u (low s))) (number-is f i j h) ∙ eqZ-sub (j + shift s i) u (low s)) (λ j l. refl)
         ∙ those-one (g i) (shift s i) u n)
 
-    unswept : (k : ℤ) → ((v : ℕ) → subℕ v (low (sweeping m n major minor a b f)) ≡ k → ⊥)
+    unswept : (k : ℤ) → ((v : ℕ) → subℕ v (low (sweeping m n major-step minor-step a b f)) ≡ k → ⊥)
         → each (λ (i : ℕ). those (λ (j : ℕ). eqZ (numberAt f a b i j) k) (g i) n) m ≡ []
     unswept k none = each-none _ m (λ i h. those-none _ (g i) n (λ j l. off i j h (eqZ (numberAt f a b i j) k) refl))
       where
         off : (i j : ℕ) → i < m → (t : Bool) → eqZ (numberAt f a b i j) k ≡ t → eqZ (numberAt f a b i j) k ≡ false
-        off i j h true e = absurd (none (j + shift (sweeping m n major minor a b f) i) (sym (number-is f i j h) ∙ eqZ-true _ _ e))
+        off i j h true e = absurd (none (j + shift (sweeping m n major-step minor-step a b f) i) (sym (number-is f i j h) ∙ eqZ-true _ _ e))
         off i j h false e = e
 
 -- ---- document 01's lines

@@ -2,12 +2,12 @@
 --   Direction                 directions, and the sixteen that have a number
 --   Shape                     the shape of a frame
 --   Lines                     the lines of a frame in a direction, and what a line reads
---   ByLines, Painted          a frame treated line by line, and one painted pixel by pixel
+--   Painted, ByLines          a frame painted pixel by pixel, and one treated line by line
 --   Sweep, Span               the lines in unsigned numbers: for the code, and for the crates whose calls walk along lines
 pub mod Direction
 pub mod Shape
 pub mod Lines
-pub mod ByLines
 pub mod Painted
+pub mod ByLines
 pub mod Sweep
 pub mod Span

@@ -3,7 +3,7 @@
 --   lineOf d x y       the number of the line that pixel (x, y) is on
 --   eqZ j k            the line numbers j and k are the same
 --   at x y             the pixel (x, y)
---   onLine d k x y     the pixel (x, y) where it is on line k, else nothing
+--   pixelOn d k x y    the pixel (x, y) where it is on line k, else nothing
 --   pixels sh d k      the pixels of line k of a frame of shape sh, in line order
 --   noLine sh d k      the frame has no such line: it has no pixels (empty)
 --   place sh c         the byte of pixel c
@@ -55,15 +55,15 @@ pub record Pixel : Type 0 where
 abbrev pub at : ℕ → ℕ → Pixel
 at x y = record { x = x; y = y }
 
-abbrev pub onLine : Direction → ℤ → ℕ → ℕ → List Pixel
-onLine d k x y = keep (eqZ (lineOf d x y) k) (at x y)
+abbrev pub pixelOn : Direction → ℤ → ℕ → ℕ → List Pixel
+pixelOn d k x y = keep (eqZ (lineOf d x y) k) (at x y)
 
 -- 'Along a line x ascends.' 'Along a line y ascends.'
 abbrev pub pixels : Shape → Direction → ℤ → List Pixel
 pixels sh d k =
     cond (shallow d)
-    (each (λ (x : ℕ). each (λ (y : ℕ). onLine d k x y) (sh .height)) (sh .width))
-    (each (λ (y : ℕ). each (λ (x : ℕ). onLine d k x y) (sh .width)) (sh .height))
+    (each (λ (x : ℕ). each (λ (y : ℕ). pixelOn d k x y) (sh .height)) (sh .width))
+    (each (λ (y : ℕ). each (λ (x : ℕ). pixelOn d k x y) (sh .width)) (sh .height))
 
 -- 'the frame has no such line'
 abbrev pub empty : List Pixel → Bool

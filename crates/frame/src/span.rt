@@ -12,7 +12,7 @@ pub(crate) struct Span {
     pub count: usize,
 }
 
-// The first major coordinate at which a line has made more than x minor steps; `majors` where there is none.
+// The first major coordinate at which a line has moved more than x aside; `majors` where there is none.
 fn past(run: usize, rise: usize, majors: usize, x: usize) -> usize
     requires { ⌜ (1 ≤ run) × (run ≤ steepest) × (rise ≤ run) × (x ≤ 8 * longest) ⌝ }
     ensures { λ e. ⌜ e ≡ passed run rise majors x ⌝ }
@@ -27,7 +27,7 @@ fn past(run: usize, rise: usize, majors: usize, x: usize) -> usize
     e
 }
 
-// The first major coordinate at which the minor steps and `more` are above `most`.
+// The first major coordinate at which how far a line has moved aside, and `more`, are above `most`.
 fn skip(run: usize, rise: usize, majors: usize, more: usize, most: usize) -> usize
     requires { ⌜ (1 ≤ run) × (run ≤ steepest) × (rise ≤ run) × (most ≤ 8 * longest) ⌝ }
     ensures { λ b. ⌜ b ≡ skipped run rise majors more most ⌝ }

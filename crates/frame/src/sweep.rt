@@ -12,13 +12,13 @@ ghost use Rattle.answer.specs.Limits.{longest, steepest};
 ghost use Rattle.frame.specs.Lines.{r};
 ghost use Rattle.frame.specs.Sweep.{sweepOf, sweepFor, shiftAt, low, Accepted};
 
-// How many major and minor coordinates there are, how far apart their pixels are in the frame's bytes, the slope, and how far a line moves aside
-// from its first major coordinate to the last.
+// How many major and minor coordinates there are, how many bytes of the frame it is from one to the next, the slope, and how far a line moves aside from its
+// first major coordinate to the last.
 pub struct Sweep {
     pub majors: usize,
     pub minors: usize,
-    pub major: usize,
-    pub minor: usize,
+    pub major_step: usize,
+    pub minor_step: usize,
     pub run: usize,
     pub rise: usize,
     pub falling: bool,
@@ -28,15 +28,15 @@ pub struct Sweep {
 const NONE: Sweep = Sweep {
     majors: 0,
     minors: 0,
-    major: 0,
-    minor: 0,
+    major_step: 0,
+    minor_step: 0,
     run: 0,
     rise: 0,
     falling: false,
     top: 0,
 };
 
-// How many minor steps a line has made at a major coordinate, rounded.
+// How far aside a line has moved at a major coordinate, rounded.
 fn rounded(run: usize, rise: usize, i: usize) -> usize
     requires { ⌜ (1 ≤ run) × (run ≤ steepest) × (rise ≤ run) × (i ≤ longest) ⌝ }
     ensures { λ n. ⌜ n ≡ r run rise i ⌝ }
@@ -62,8 +62,8 @@ pub(crate) fn swept(shape: Shape, d: Direction) -> Sweep
         return Sweep {
             majors: width,
             minors: height,
-            major: 1,
-            minor: stride,
+            major_step: 1,
+            minor_step: stride,
             run: a,
             rise: b,
             falling,
@@ -74,8 +74,8 @@ pub(crate) fn swept(shape: Shape, d: Direction) -> Sweep
     Sweep {
         majors: height,
         minors: width,
-        major: stride,
-        minor: 1,
+        major_step: stride,
+        minor_step: 1,
         run: b,
         rise: a,
         falling,

@@ -1,6 +1,7 @@
 -- The lent row; and along, a line is a row.
 --   row-fits                        a row ends within the slice
---   row-is, row-length, row-pixel   the row that is lent back, its length and its pixels
+--   row-is, row-from                the row that is lent back, and where it begins
+--   row-length, row-pixel           its length and its pixels
 --   along-row                       in a direction without a slope line u is row u
 -- Assumes nothing.
 use mathlib.Core.Path.{_≡_, sym, ap, _∙_}
@@ -19,14 +20,20 @@ use Rattle.frame.specs.Shape.{isFrame, needed}
 use Rattle.frame.specs.Lines.{at, place, gathered, firstLine}
 use Rattle.frame.specs.Sweep.{Accepted}
 use Rattle.frame.proofs.Alongs.{row-ends, along-line}
-use Rattle.gathering.specs.Rows.{rowOf}
+use Rattle.gathering.specs.Rows.{hasRow, rowOf, rowFrom}
 
 module _ (f : List ℕ) (sh : Shape) (y : ℕ) (ok : isFrame sh ≡ true) (fits : needed sh ≤ length f) (here : y < sh .height) where
   pub row-fits : y * sh .stride + sh .width ≤ length f
   row-fits = omega (arith, row-ends sh y here)
 
+  has-row : hasRow sh y (length f) ≡ true
+  has-row = rw (ok, le-leb (needed sh) (length f) fits, lt-ltb y (sh .height) here)
+
   pub row-is : rowOf f sh y ≡ take (sh .width) (drop (y * sh .stride) f)
-  row-is = rw (ok, le-leb (needed sh) (length f) fits, lt-ltb y (sh .height) here)
+  row-is = rw has-row
+
+  pub row-from : rowFrom f sh y ≡ y * sh .stride
+  row-from = rw has-row
 
   pub row-length : length (rowOf f sh y) ≡ sh .width
   row-length =

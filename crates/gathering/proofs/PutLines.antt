@@ -16,12 +16,13 @@ use Rattle.frame.specs.declared.direction.Direction.{Direction}
 use Rattle.frame.specs.declared.shape.Shape.{Shape}
 use Rattle.frame.specs.Shape.{needed, gapless}
 use Rattle.frame.specs.Lines.{lineOf, at, pixels, noLine, place, indexIn}
+use Rattle.frame.specs.Painted.{Gap}
 use Rattle.frame.specs.Sweep.{Accepted}
 use Rattle.frame.proofs.Shapes.{gapless-accepted}
 use Rattle.frame.proofs.Pixels.{its-line, on-its-line}
 use Rattle.frame.proofs.Partition.{place-once, line-once}
 use Rattle.frame.proofs.Spots.{index-in}
-use Rattle.frame.proofs.ByLines.{Gap, map-at}
+use Rattle.frame.proofs.ByLines.{map-at}
 use Rattle.frame.proofs.Alongs.{row-ends}
 use Rattle.gathering.specs.Scattering.{put, raised, Raises}
 use Rattle.gathering.specs.Claiming.{claims, held, claimFits, ClaimsLine}

@@ -17,9 +17,9 @@ pub(crate) fn minor_of(s: Sweep, u: usize, i: usize) -> usize
 // The byte of the pixel with major coordinate i and minor coordinate j.
 pub(crate) fn byte_of(s: Sweep, i: usize, j: usize) -> usize
     requires { ⌜ Sane s × (i < s .majors) × (j < s .minors) ⌝ }
-    ensures { λ n. ⌜ n ≡ i * s .major + j * s .minor ⌝ }
+    ensures { λ n. ⌜ n ≡ i * s .«major_step» + j * s .«minor_step» ⌝ }
 {
-    i * s.major + j * s.minor
+    i * s.major_step + j * s.minor_step
 }
 
 // The byte of line u's pixel at major coordinate i.

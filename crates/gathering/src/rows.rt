@@ -1,12 +1,12 @@
 // The lent row.
 use crate::Pixel;
 use frame::Shape;
-ghost use mathlib.Core.Path.{_≡_};
-ghost use Rattle.gathering.specs.Rows.{rowOf};
+ghost use Rattle.gathering.specs.Rows.{LendsRow};
 
-// Row y of a frame, without its gap; the empty part where there is no such row, or rule 1 or 5 refuses the frame.
+// Lends back row y of a frame without its gap, the bytes themselves in src; the empty part at the start of src where there is no such row, or rule 1 or 5 refuses
+// the frame.
 pub fn row(src: &[Pixel], shape: Shape, y: usize) -> &[Pixel]
-    ensures { λ p. ⌜ now p ≡ rowOf (now (src .entry)) shape y ⌝ }
+    ensures { λ part. ⌜ LendsRow (src .entry) shape y part ⌝ }
 {
     if !shape.is_frame() {
         return &src[0..0];

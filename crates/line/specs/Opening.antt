@@ -26,7 +26,7 @@ openRules n L room spare =
 pub record OpensLine (src : List ℕ) (L : ℕ) (dst dst′ scratch scratch′ : List ℕ) (a : Answer) : Type 0 where
   pub answers : a ≡ answer (openRules (length src) L (length dst) (length scratch)) 0
   pub written : dst′ ≡ after a (front (opened src L) dst) dst
-  pub scratch-kept : scratch′ ≡ after a scratch′ scratch
+  pub scratch-kept : (a .number ≡ 0 → ⊥) → scratch′ ≡ scratch
   pub scratch-length : length scratch′ ≡ length scratch
 
 abbrev pub openedInPlace : List ℕ → ℕ → List ℕ

@@ -1,19 +1,17 @@
 -- A frame copied, and opened where it stands by passes over its rows (crate rows): that is the opened source, painted. The copy's rows may stand closer, or
 -- further apart, than those of the source.
---   front-room                     the part of an array that holds a row's marks
 --   opened-spot                    an opened pixel is the opening of its line, over all major coordinates of the sweep, there
 --   opened-in-place                every line opened where it stands is the frame opened
 --   copied-opened                  an opened pixel depends on the pixels alone: the copy's is the source's
---   opened-down, opened-shallow    the copy, opened
+--   opened-copy                    the copy, opened by `open_down` or `open_shallow`
 -- Assumes nothing.
 use mathlib.Core.Path.{_≡_, refl, sym, ap, ap₂, _∙_}
-use mathlib.Core.Bool.{Bool, true, false}
+use mathlib.Core.Bool.{Bool, true, false, _&&_}
 use mathlib.Core.List.{List, [], _∷_, map, List·Memᴰ, List·Memᴰ·head, List·Memᴰ·tail}
 use mathlib.Core.Logic.{⊎-elim}
 use Prim.Native.Nat.{ℕ, _+_, _-_, _≤_, _<_}
 use native.Mathlib.Omega.{arith}
-use lib.ListN.{length, getD, take, List·getD-eq-default}
-use lib.Seq.{length-take-le}
+use lib.ListN.{length, getD, List·getD-eq-default}
 use Rattle.lists.specs.Tables.{table}
 use Rattle.lists.proofs.Cases.{less-or-not}
 use Rattle.lists.proofs.Tables.{length-table, getD-table}
@@ -24,7 +22,7 @@ use Rattle.line.proofs.Padding.{opened-inner}
 use Rattle.frame.specs.declared.direction.Direction.{Direction}
 use Rattle.frame.specs.declared.shape.Shape.{Shape}
 use Rattle.frame.specs.declared.sweep.Sweep.{Sweep}
-use Rattle.frame.specs.Direction.{goesDown, shallow}
+use Rattle.frame.specs.Direction.{shallow}
 use Rattle.frame.specs.Shape.{shape, isFrame, needed}
 use Rattle.frame.specs.Lines.{Pixel, at, lineOf, pixels, place, lineRead, indexIn}
 use Rattle.frame.specs.Painted.{Painted}
@@ -40,14 +38,10 @@ use Rattle.frame.proofs.Paintings.{painted-as, painted-again}
 use Rattle.gathering.specs.Rows.{rowOf}
 use Rattle.gathering.proofs.LentRows.{row-length, row-pixel}
 use Rattle.rows.specs.Rows as rows
-use Rattle.rows.specs.Rows.{spot as byteOf, lane, OpensLines, OpensDown, OpensShallow}
-use Rattle.rows.proofs.Downs.{down-all}
-use Rattle.rows.proofs.Shallows.{shallow-all}
+use Rattle.rows.specs.Rows.{spot as byteOf, lane, OpensLines, canOpen, OpensIf}
+use Rattle.rows.proofs.Acceptance.{opens-all}
 use Rattle.opening.specs.Pixels as opening
 use Rattle.opening.specs.Pixels.{openedPixel}
-
-pub front-room : (k : ℕ) (xs : List ℕ) → k ≤ length xs → k ≤ length (take k xs)
-front-room k xs fit = omega (arith, length-take-le k xs fit)
 
 -- ---- a line over all major coordinates, 0 where it has no pixel: only its pixels count in its opening
 
@@ -161,16 +155,9 @@ module _ (f : List ℕ) (sh : Shape) (d : Direction) (stride : ℕ) (frame : isF
       (map-same (λ (c : Pixel). getD g₁ (place (shape (sh .width) (sh .height) stride) c) 0) (λ (c : Pixel). getD f (place sh c) 0) line
       (λ c m. let on = its-line sh d (lineOf d x y) (c .x) (c .y) m in copied .pixels (c .x) (c .y) (on .0) (on .1)))
 
-  copy-opened : {g₂ : List ℕ} (L : ℕ) → 1 ≤ L → OpensLines (sweepOf (shape (sh .width) (sh .height) stride) d) L g₁ g₂
+  pub opened-copy : {g₂ : List ℕ} {way : Bool} (L : ℕ) → 1 ≤ L → way ≡ true → needed (shape (sh .width) (sh .height) stride) ≤ length g
+      → OpensIf (canOpen (shape (sh .width) (sh .height) stride) d L (length g₁) && way) (sweepOf (shape (sh .width) (sh .height) stride) d) L g₁ g₂
       → Painted (shape (sh .width) (sh .height) stride) (openedPixel f sh d L) g g₂
-  copy-opened L some o =
-      painted-as (openedPixel f sh d L) (painted-again copied (opened-in-place (shape (sh .width) (sh .height) stride) d L ok some o)) (λ x y h l. copied-opened L x y)
-
-  pub opened-down : {g₂ : List ℕ} (L : ℕ) → 1 ≤ L → goesDown d ≡ true → needed (shape (sh .width) (sh .height) stride) ≤ length g
-      → OpensDown (shape (sh .width) (sh .height) stride) d L g₁ g₂ → Painted (shape (sh .width) (sh .height) stride) (openedPixel f sh d L) g g₂
-  opened-down L some steep room o = copy-opened L some (o .done (down-all ok steep L g₁ some (omega (arith, rows .same))))
-
-  pub opened-shallow : {g₂ m m′ : List ℕ} (L : ℕ) → 1 ≤ L → shallow d ≡ true → needed (shape (sh .width) (sh .height) stride) ≤ length g
-      → OpensShallow (shape (sh .width) (sh .height) stride) d L g₁ g₂ m m′ → sh .width ≤ length m → Painted (shape (sh .width) (sh .height) stride) (openedPixel f sh d L) g g₂
-  opened-shallow {g₂} {m} L some flat room o marks =
-      copy-opened L some (o .done (shallow-all ok flat L g₁ (length m) some (omega (arith, rows .same)) marks))
+  opened-copy L some goes room o =
+      let opened = o .done (opens-all ok goes L (length g₁) some (omega (arith, rows .same))) in
+      painted-as (openedPixel f sh d L) (painted-again copied (opened-in-place (shape (sh .width) (sh .height) stride) d L ok some opened)) (λ x y h l. copied-opened L x y)

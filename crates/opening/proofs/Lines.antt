@@ -33,14 +33,13 @@ use Rattle.frame.specs.declared.lines.Lines.{Lines}
 use Rattle.frame.specs.declared.shape.Shape.{Shape}
 use Rattle.frame.specs.Shape.{needed, gapless}
 use Rattle.frame.specs.Lines.{Pixel, at, lineOf, lineRead, pixels, noLine, place, indexIn, firstLine, lineCount, linesOf}
-use Rattle.frame.specs.Painted.{Painted}
+use Rattle.frame.specs.Painted.{Gap, Painted}
 use Rattle.frame.specs.Sweep.{sweepOf, low, Accepted}
 use Rattle.frame.proofs.Numbers.{sub-inj}
 use Rattle.frame.proofs.Shapes.{framed, gapless-accepted}
 use Rattle.frame.proofs.Pixels.{on-its-line, empty-not, number, pixels-most, line-among, among-line}
 use Rattle.frame.proofs.Firsts.{lines-accepted, number-is, number-back}
 use Rattle.frame.proofs.Spots.{index-in}
-use Rattle.frame.proofs.ByLines.{Gap}
 use Rattle.gathering.specs.Gathering.{Gathers}
 use Rattle.gathering.specs.Scattering.{Raises}
 use Rattle.gathering.specs.Claiming.{claims, ClaimsLine}

@@ -1,5 +1,5 @@
 -- The entry `fibre_open_frame`, for the camera's host, written in C.
---   packed a          the one number that an answer becomes
+--   oneNumber a       the one number that an answer becomes
 use mathlib.Core.Path.{_≡_}
 use mathlib.Core.List.{List}
 use Prim.Native.Nat.{ℕ, _+_, _*_, _%_, _^_}
@@ -8,9 +8,9 @@ use Rattle.frame.specs.declared.direction.Direction.{Direction}
 use Rattle.frame.specs.declared.shape.Shape.{Shape}
 use Rattle.opening.specs.Frames.{OpensFrame}
 
--- of every answer; the figure counts up to 2^32
-abbrev pub packed : Answer → ℕ
-packed a = a .number * 2 ^ 32 + a .figure % 2 ^ 32
+-- 'the refusal number times 2^32, plus the figure': of a figure of 2^32 or more, which no rule of the call has, the rest by 2^32
+abbrev pub oneNumber : Answer → ℕ
+oneNumber a = a .number * 2 ^ 32 + a .figure % 2 ^ 32
 
 -- 'calls the frame opening with numbers and byte slices and gets one 64-bit number back: the refusal number times 2^32, plus the figure'
 pub record HostOpens (f : List ℕ) (sh : Shape) (d : Direction) (L : ℕ) (g g′ t t′ : List ℕ) (n : ℕ) : Type 0 where

@@ -3,7 +3,6 @@ use crate::Pixel;
 use crate::lent::refusal;
 use crate::rowwise::open_rows;
 use answer::Answer;
-use answer::LONGEST;
 use frame::Direction;
 use frame::Shape;
 ghost use mathlib.Core.Path.{_≡_};
@@ -45,8 +44,7 @@ pub(crate) fn opened_into(
         rows::open_down(dst, frame, d, length);
         return;
     }
-    let mut bends = [0u8; LONGEST];
-    rows::open_shallow(dst, &mut bends[..width], frame, d, length);
+    rows::open_shallow(dst, frame, d, length);
 }
 
 // Opens each line of the frame src in the direction d with windows of `length` pixels, into the frame dst. Hands back 0. Rules 1, 2, 3, 5, 6, 7.

@@ -7,14 +7,14 @@ use frame::Shape;
 ghost use mathlib.Core.Path.{_≡_};
 ghost use Rattle.frame.specs.Direction.{dir};
 ghost use Rattle.frame.specs.Shape.{shape};
-ghost use Rattle.opening.specs.Host.{packed, HostOpens};
+ghost use Rattle.opening.specs.Host.{oneNumber, HostOpens};
 
 // What a refusal's number counts in the one number that the host gets: 2^32.
 const UNIT: u64 = 4294967296;
 
 // The number times 2^32, plus the figure.
-fn pack(a: Answer) -> u64
-    ensures { λ n. ⌜ n ≡ packed a ⌝ }
+fn one_number(a: Answer) -> u64
+    ensures { λ n. ⌜ n ≡ oneNumber a ⌝ }
 {
     a.number as u64 * UNIT + a.figure % UNIT
 }
@@ -39,5 +39,5 @@ pub extern "C" fn fibre_open_frame(
         height,
         stride,
     };
-    pack(open_frame(src, frame, Direction { p, q }, length, dst, scratch))
+    one_number(open_frame(src, frame, Direction { p, q }, length, dst, scratch))
 }

@@ -9,7 +9,7 @@ mod raising;
 mod rowwise;
 mod sixteen;
 
-// What is opened; scratch, marks and the numbers of directions are bytes.
+// What is opened; scratch and the numbers of directions are bytes.
 pub type Pixel = u8;
 
 pub use directions::direction_frame;

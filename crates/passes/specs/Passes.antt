@@ -1,14 +1,14 @@
--- What a pass over n pixels of a buffer leaves. Each pixel meets its partner, which stands in the same buffer, and becomes what the two make.
+-- A pass goes over n neighbouring pixels of a buffer, its row: each becomes the darker, or the brighter, of itself and its partner, another pixel.
 --   op darker a b              the darker of two pixels, or the brighter
 --   straight from g j          pixel j of the row that starts at `from`
 --   bent m near far g j        pixel j of one of two rows: of the one at `near` where the mark j of m is 0, or there is none, else of the one at `far`
 --   met op partner at g x      what pixel x becomes, in a row that starts at `at`: op of it and of its partner
---   Ahead at from n            a pass upward over the n pixels from `at` on finds those from `from` on as they were
---   Goes up at near far n      the same of a pass upward or downward, and of two rows
+--   Ahead at from n            a pass that goes upward over the n pixels from `at` on finds the n from `from` on as they were
+--   Goes up at near far n      a pass that goes upward where `up`, else downward, finds those from `near` on and those from `far` on as they were
 --   Fits marks at near far n size  the rows are in a buffer of size pixels, and each pixel has its mark
---   Parted at near far n       the pass that goes by the row at `near` finds the one at `far` as it was
---   blockAt n k up             where block k of a row stands, in the order of the pass
---   treatedFrom, treatedTo     what k blocks cover
+--   Parted at near far n       a pass that goes upward where `near` is `at` or behind it, else downward, finds those from `far` on as they were
+--   blockAt n k up             where block k of a row of n pixels begins, in the order of the pass
+--   treatedFrom, treatedTo     which pixels of the row the first k blocks are: from the one up to, not including, the other
 --   Meets, MeetsBent           `meet` and `meet_bent`: where the rows fit, each pixel meets its partner; else nothing changes
 --   Clears, ClearsBent         `blacken` and `blacken_bent`: pixels become 0, all of them or the marked ones
 --   Fades                      `fade`: pixels meet 0

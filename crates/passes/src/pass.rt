@@ -1,5 +1,5 @@
-// A pass over a row, in place. It goes the way on which it finds what it has yet to read as it was: upward where the partners stand behind, downward where they
-// stand before. The last two blocks overlap, so that nothing is left to go one by one: both are made before either is stored.
+// A pass over a row, in place. It goes the way on which it finds what it has yet to read as it was: upward where the partners begin at the row or behind it,
+// downward where they begin before it. The last two blocks overlap, so that nothing is left to go one by one: both are made before either is stored.
 use crate::Pixel;
 use crate::block::bent_block;
 use crate::block::put_block;
@@ -11,8 +11,8 @@ ghost use lib.ListN.{length};
 ghost use Rattle.lists.specs.Stores.{Filled};
 ghost use Rattle.passes.specs.Passes.{op, straight, bent, met, blockAt, treatedFrom, treatedTo, Ahead, Fits, Parted, Goes, Meets, MeetsBent};
 
-// Where block k of a row of n pixels stands, in the order of the pass.
-fn place(n: usize, k: usize, up: bool) -> usize
+// Where block k of a row of n pixels begins: the pass takes the first block first where it goes upward, else the last.
+fn block_at(n: usize, k: usize, up: bool) -> usize
     requires { ⌜ 64 * k + 64 ≤ n ⌝ }
     ensures { λ i. ⌜ (i ≡ blockAt n k up) × (i + 64 ≤ n) ⌝ }
 {
@@ -22,7 +22,7 @@ fn place(n: usize, k: usize, up: bool) -> usize
     n - 64 * k - 64
 }
 
-// Each pixel of the first `count` blocks becomes the darker or the brighter of itself and its partner.
+// Each pixel of the `count` blocks that the pass takes first becomes the darker or the brighter of itself and its partner.
 fn straight_blocks(
     buf: &mut [Pixel],
     at: usize,
@@ -37,14 +37,14 @@ fn straight_blocks(
 {
     let mut k = 0;
     while k < count {
-        let i = place(n, k, up);
+        let i = block_at(n, k, up);
         let t = straight_block(buf, at, from, i, 64, darker);
         put_block(buf, at + i, 64, t);
         k += 1;
     }
 }
 
-// The same of all: a few at once, others by blocks.
+// The same of all n pixels: up to 64 as one block.
 fn straight_row(buf: &mut [Pixel], at: usize, from: usize, n: usize, up: bool, darker: bool)
     requires { ⌜ (at + n ≤ length (now buf)) × (from + n ≤ length (now buf)) × Goes up at from from n ⌝ }
     ensures { λ _. ⌜ Filled (now (buf .entry)) (now (buf .exit)) at (at + n) (met (op darker) (straight from) at (now (buf .entry))) ⌝ }
@@ -55,8 +55,8 @@ fn straight_row(buf: &mut [Pixel], at: usize, from: usize, n: usize, up: bool, d
         return;
     }
     let count = (n - 65) / 64;
-    let i = place(n, count, up);
-    let j = n - 64 - place(n, 0, up);
+    let i = block_at(n, count, up);
+    let j = n - 64 - block_at(n, 0, up);
     straight_blocks(buf, at, from, n, count, up, darker);
     let next = straight_block(buf, at, from, i, 64, darker);
     let last = straight_block(buf, at, from, j, 64, darker);
@@ -81,7 +81,7 @@ fn bent_blocks(
 {
     let mut k = 0;
     while k < count {
-        let i = place(n, k, up);
+        let i = block_at(n, k, up);
         let t = bent_block(buf, bends, at, near, far, i, 64, darker);
         put_block(buf, at + i, 64, t);
         k += 1;
@@ -107,8 +107,8 @@ fn bent_row(
         return;
     }
     let count = (n - 65) / 64;
-    let i = place(n, count, up);
-    let j = n - 64 - place(n, 0, up);
+    let i = block_at(n, count, up);
+    let j = n - 64 - block_at(n, 0, up);
     bent_blocks(buf, bends, at, near, far, n, count, up, darker);
     let next = bent_block(buf, bends, at, near, far, i, 64, darker);
     let last = bent_block(buf, bends, at, near, far, j, 64, darker);
@@ -158,7 +158,7 @@ pub fn meet(buf: &mut [Pixel], at: usize, from: usize, n: usize, darker: bool)
     straight_row(buf, at, from, n, at <= from, darker);
 }
 
-// Whether three rows of n pixels are among `size`, and there are as many marks.
+// Whether three rows of n pixels are among `size`, and each pixel has its mark.
 fn is_fitting(size: usize, marks: usize, at: usize, near: usize, far: usize, n: usize) -> bool
     ensures { λ b. ⌜ (b ≡ true → Fits marks at near far n size) × (b ≡ false → Fits marks at near far n size → ⊥) ⌝ }
 {
@@ -177,8 +177,8 @@ fn is_parted(at: usize, near: usize, far: usize, n: usize) -> bool
     is_ahead(far, at, n)
 }
 
-// The same with a partner among those from `near` on, or from `far` on where it is marked; where the pass would meet a partner it has changed, nothing changes
-// either. No marks at all say that none is marked.
+// The same with a partner among those from `near` on, or from `far` on where it is marked; where the pass would change pixels from `far` on before it reads
+// them, nothing changes either. No marks at all say that none is marked.
 pub fn meet_bent(
     buf: &mut [Pixel],
     bends: &[u8],

@@ -1,11 +1,11 @@
 -- Which columns of a row bend: the rest of the division that rounds, carried from column to column.
 --   rest-start, rest-stay, rest-step  the rest at column 0, and one column on
---   over-fits, over-small             what e columns have over, past the rows that they make for sure
+--   surplus-fits, surplus-small       what e columns make beyond whole rows
 --   small-product                     a product of an accepted size
 --   bend-marked                       a column's mark, by its rest
 --   bends-more                        one mark more
 --   bends-front                       the marks alone, at the front of a longer list
---   bends-none                        nothing over: no column bends
+--   bends-none                        no surplus: no column bends
 --   marks-fit, marked-by, marks-enough    the marks of a pass have room, and are as many as it needs
 -- Assumes nothing.
 use mathlib.Core.Path.{_≡_, sym, ap, _∙_, subst}
@@ -55,33 +55,33 @@ pub small-product : (e b : ℕ) → e ≤ 4096 → b ≤ 255 → e * b ≤ 4096 
 small-product e b h k = mul-le-mul {n₁ = e} {m₁ = b} {n₂ = 4096} {m₂ = 255} h k
 
 module _ (a b e d : ℕ) (some : 1 ≤ a) (rows : d ≡ e * b / a) where
-  pub over-fits : d * a ≤ e * b
-  over-fits = omega (arith, div-add-mod' (e * b) a, ap (λ (k : ℕ). k * a) rows)
+  pub surplus-fits : d * a ≤ e * b
+  surplus-fits = omega (arith, div-add-mod' (e * b) a, ap (λ (k : ℕ). k * a) rows)
 
-  pub over-small : 2 * (e * b - d * a) < 2 * a
-  over-small = omega (arith, div-add-mod' (e * b) a, ap (λ (k : ℕ). k * a) rows, mod-lt (e * b) some)
+  pub surplus-small : 2 * (e * b - d * a) < 2 * a
+  surplus-small = omega (arith, div-add-mod' (e * b) a, ap (λ (k : ℕ). k * a) rows, mod-lt (e * b) some)
 
-  over-sum : d * (2 * a) + 2 * (e * b - d * a) ≡ 2 * e * b
-  over-sum =
+  surplus-sum : d * (2 * a) + 2 * (e * b - d * a) ≡ 2 * e * b
+  surplus-sum =
       let twice : d * (2 * a) ≡ 2 * (d * a) = sym (mul-assoc d 2 a) ∙ ap (λ (k : ℕ). k * a) (mul-comm d 2) ∙ mul-assoc 2 d a in
-      omega (arith, twice, over-fits, mul-assoc 2 e b)
+      omega (arith, twice, surplus-fits, mul-assoc 2 e b)
 
-  -- the rest at x and what is over make a row more, or not
+  -- the rest at x and the surplus make a row more, or not
   pub bend-marked : {x rest : ℕ} → Rest a b x rest
       → r a b (x + e) ≡ r a b x + cond (eqb (cond (ltb (rest + 2 * (e * b - d * a)) (2 * a)) 0 1) 0) d (d + 1)
   bend-marked {x} {rest} p =
       let n = r a b x in
-      let over = 2 * (e * b - d * a) in
+      let surplus = 2 * (e * b - d * a) in
       ⊎-elim
       (λ short.
-      rw (lt-ltb (rest + over) (2 * a) short)
-      (r-by a b (x + e) (n + d) (rest + over) (omega (arith, p .sum, over-sum, further x e b, add-mul n d (2 * a))) short))
+      rw (lt-ltb (rest + surplus) (2 * a) short)
+      (r-by a b (x + e) (n + d) (rest + surplus) (omega (arith, p .sum, surplus-sum, further x e b, add-mul n d (2 * a))) short))
       (λ long.
-      rw (le-ltb (rest + over) (2 * a) long)
-      (r-by a b (x + e) (n + (d + 1)) (rest + over - 2 * a)
-      (omega (arith, p .sum, over-sum, further x e b, add-mul n (d + 1) (2 * a), once d (2 * a), long))
-      (omega (arith, p .below, over-small))))
-      (less-or-not (rest + over) (2 * a))
+      rw (le-ltb (rest + surplus) (2 * a) long)
+      (r-by a b (x + e) (n + (d + 1)) (rest + surplus - 2 * a)
+      (omega (arith, p .sum, surplus-sum, further x e b, add-mul n (d + 1) (2 * a), once d (2 * a), long))
+      (omega (arith, p .below, surplus-small))))
+      (less-or-not (rest + surplus) (2 * a))
 
 pub bends-more : (a b e d x v : ℕ) (m : List ℕ) → Bends a b e d x m → x < length m → r a b (x + e) ≡ r a b x + cond (eqb v 0) d (d + 1)
     → Bends a b e d (x + 1) (set m x v)

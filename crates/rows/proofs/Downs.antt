@@ -1,11 +1,9 @@
--- What `open_down` leaves, by its tests.
---   down-kept        one of the tests fails: nothing changes
---   down-goes        all pass: the lines go down the rows
---   down-all         the tests, as one
---   down-done        and every line is opened
+-- The lines of a direction that goes down.
+--   down-goes        they go down the rows
+--   down-opens       opened as they go down the rows, they are opened
 -- Assumes nothing.
-use mathlib.Core.Path.{_≡_, refl, sym, _∙_}
-use mathlib.Core.Bool.{Bool, true, false, cond, true≢false}
+use mathlib.Core.Path.{_≡_, refl}
+use mathlib.Core.Bool.{Bool, true, false, cond}
 use mathlib.Core.List.{List}
 use Prim.Native.Nat.{ℕ, _≤_}
 use native.Mathlib.Nat.{le-antisymm}
@@ -20,13 +18,9 @@ use Rattle.frame.specs.Shape.{needed}
 use Rattle.frame.specs.Sweep as sweep
 use Rattle.frame.specs.Sweep.{sweepOf, Accepted}
 use Rattle.frame.proofs.Shapes.{framed, sweep-sane}
-use Rattle.rows.specs.Rows.{OpensLines, opensDown, OpensDown}
+use Rattle.rows.specs.Rows.{OpensLines}
 use Rattle.rows.specs.Down.{Down, swapOf, downOf}
-use Rattle.rows.proofs.Acceptance.{can-open-all}
 use Rattle.rows.proofs.Diagonals.{swapped-sane, swapped-opens}
-
-pub down-kept : (sh : Shape) (d : Direction) (L : ℕ) (g : List ℕ) → opensDown sh d L g ≡ false → OpensDown sh d L g g
-down-kept sh d L g no′ = record { done = λ yes′. absurd (true≢false (sym yes′ ∙ no′)); none = λ e. refl }
 
 module _ {sh : Shape} {d : Direction} (a : Accepted sh d) (falls : goesDown d ≡ true) where
   -- a shallow direction is a diagonal
@@ -34,7 +28,7 @@ module _ {sh : Shape} {d : Direction} (a : Accepted sh d) (falls : goesDown d �
   unfolding sweep.sweepOf
   slope-one flat = rw flat (le-antisymm (leb-true (natAbs (d .q)) (natAbs (d .p)) flat) (leb-true (natAbs (d .p)) (natAbs (d .q)) falls))
 
-  side-one : shallow d ≡ true → 1 ≤ sweepOf sh d .major
+  side-one : shallow d ≡ true → 1 ≤ sweepOf sh d .«major_step»
   unfolding sweep.sweepOf
   side-one flat = rw flat (omega arith)
 
@@ -49,19 +43,9 @@ module _ {sh : Shape} {d : Direction} (a : Accepted sh d) (falls : goesDown d �
       go false steep =
           record { sane = sweep-sane a; next = rw steep refl; apart = rw steep (framed sh (a .frame) .past); room = rw steep room }
 
-  down-opens : (L : ℕ) {g g′ : List ℕ} → 1 ≤ L → OpensLines (downOf sh d) L g g′ → OpensLines (sweepOf sh d) L g g′
+  pub down-opens : (L : ℕ) {g g′ : List ℕ} → 1 ≤ L → OpensLines (downOf sh d) L g g′ → OpensLines (sweepOf sh d) L g g′
   down-opens L {g} {g′} some = go (shallow d) refl
     where
       go : (t : Bool) → shallow d ≡ t → OpensLines (cond t (swapOf (sweepOf sh d)) (sweepOf sh d)) L g g′ → OpensLines (sweepOf sh d) L g g′
       go true flat o = swapped-opens (sweepOf sh d) (slope-one flat) L (sweep-sane a) (side-one flat) some o
       go false steep o = o
-
-  pub down-all : (L : ℕ) (g : List ℕ) → 1 ≤ L → needed sh ≤ length g → opensDown sh d L g ≡ true
-  down-all L g some room = rw (can-open-all a L (length g) some room, falls)
-
-  pub down-done : (L : ℕ) (g g′ : List ℕ) → 1 ≤ L → needed sh ≤ length g → OpensLines (downOf sh d) L g g′ → OpensDown sh d L g g′
-  down-done L g g′ some room o =
-      record {
-        done = λ e. down-opens L some o;
-        none = λ e. absurd (true≢false (sym (down-all L g some room) ∙ e));
-      }

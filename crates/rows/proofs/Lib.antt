@@ -1,19 +1,19 @@
 -- The laws of rows/specs.
 --   Rowwise     rows treated one after the other
 --   Lines       a frame's lines, that go any way, and their opening
---   Acceptance  what the two openings ask for
+--   Acceptance  what the two openings ask for, and what they leave
 -- Where lines go down the rows:
 --   Sides       one row's part of a pass
 --   Extremes    the darkest, or the brightest, of numbers in a row
 --   Blocks      rows by blocks, in the order of a pass
 --   Opened      the opening, from an erosion and a dilation by blocks
 --   Diagonals   lines of slope 1, along the rows and down them
---   Downs       what `open_down` leaves, by its tests
+--   Downs       the lines of a direction that goes down
 -- Where lines go along the rows, and bend:
 --   Bends       which columns of a row bend
 --   Slants      one row's part of a pass, and a pass over all rows
 --   Growths     the passes of an opening, line by line
---   Shallows    what `open_shallow` leaves, by its tests
+--   Shallows    the lines of a shallow direction
 pub mod Rowwise
 pub mod Lines
 pub mod Acceptance

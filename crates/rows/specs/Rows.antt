@@ -1,16 +1,16 @@
--- Rows of a frame, the lines that cross them, and what a pass leaves. Pixel k at the major coordinate i of a line stands at byte A i k and is on line
--- k + h i. So h is any way for the lines to go, and A any way for the pixels to stand.
+-- Rows of a frame, the lines that cross them, and what a pass leaves. Pixel (i, k) has the major coordinate i and the minor coordinate k. It stands at byte
+-- A i k, and its line has the index k + h i; the definitions serve any such A and h.
 --   spot s i k             the byte of a pixel in a sweep
---   laneAt h A N g u i     line u's pixel at i in the frame g, which has N of them there; 0 where it has none
---   lane h A N M g u       line u over the M major coordinates
+--   laneAt h A N g u i     line u's pixel at the major coordinate i of the frame g, which has N minor coordinates; 0 where it has none
+--   lane h A N M g u       these, at each of the M major coordinates
 --   PixelsAre A M N F      every pixel is F i k; every other byte is as it was
 --   rowAt forth M t        of M rows the one that comes after t others: from the first on where `forth`, else from the last back
 --   rowsBy S               the starts of rows that stand S apart
 --   RowsAre st N lo hi F   the rows lo up to, not including, hi, which start at st i, have the pixels F i k; every other byte is as it was
 --   OpensLines s L         every line of the sweep s is opened with windows of L pixels
---   canOpen sh d L n       rules 1, 2, 3 and 5 accept the frame, the direction, the window length and a buffer of n bytes
---   opensDown, OpensDown   what `open_down` promises
---   opensShallow, OpensShallow    what `open_shallow` promises
+--   canOpen sh d L n       rules 1, 2 and 5 accept the frame, the direction and a buffer of n bytes, and L is not 0
+--   OpensIf t s L          where the test t holds, every line of the sweep s is opened with windows of L pixels; else nothing changes
+--   OpensDown, OpensShallow    what `open_down` and `open_shallow` promise of the frame that stands in a buffer
 -- Laws: rows/proofs/Rowwise, Lines, Acceptance.
 use mathlib.Core.Path.{_≡_}
 use mathlib.Core.Bool.{Bool, true, false, cond, _&&_}
@@ -28,7 +28,7 @@ use Rattle.frame.specs.Shape.{isFrame, needed}
 use Rattle.frame.specs.Sweep.{shift, sweepOf}
 
 abbrev pub spot : Sweep → ℕ → ℕ → ℕ
-spot s i k = i * s .major + k * s .minor
+spot s i k = i * s .«major_step» + k * s .«minor_step»
 
 unfoldable pub laneAt : (ℕ → ℕ) → (ℕ → ℕ → ℕ) → ℕ → List ℕ → ℕ → ℕ → ℕ
 laneAt h A N g u i = cond (leb (h i) u && ltb u (h i + N)) (getD g (A i (u - h i)) 0) 0
@@ -62,18 +62,12 @@ OpensLines s L before after =
 abbrev pub canOpen : Shape → Direction → ℕ → ℕ → Bool
 canOpen sh d L n = isFrame sh && (isDirection d && (leb 1 L && leb (needed sh) n))
 
-abbrev pub opensDown : Shape → Direction → ℕ → List ℕ → Bool
-opensDown sh d L before = canOpen sh d L (length before) && goesDown d
+pub record OpensIf (t : Bool) (s : Sweep) (L : ℕ) (before after : List ℕ) : Type 0 where
+  pub done : t ≡ true → OpensLines s L before after
+  pub none : t ≡ false → after ≡ before
 
-pub record OpensDown (sh : Shape) (d : Direction) (L : ℕ) (before after : List ℕ) : Type 0 where
-  pub done : opensDown sh d L before ≡ true → OpensLines (sweepOf sh d) L before after
-  pub none : opensDown sh d L before ≡ false → after ≡ before
+abbrev pub OpensDown : Shape → Direction → ℕ → List ℕ → List ℕ → Type 0
+OpensDown sh d L before after = OpensIf (canOpen sh d L (length before) && goesDown d) (sweepOf sh d) L before after
 
--- with a buffer of n bytes for the marks of the passes
-abbrev pub opensShallow : Shape → Direction → ℕ → List ℕ → ℕ → Bool
-opensShallow sh d L before n = canOpen sh d L (length before) && (shallow d && leb (sh .width) n)
-
-pub record OpensShallow (sh : Shape) (d : Direction) (L : ℕ) (before after marks marks′ : List ℕ) : Type 0 where
-  pub same : length marks′ ≡ length marks
-  pub done : opensShallow sh d L before (length marks) ≡ true → OpensLines (sweepOf sh d) L before after
-  pub none : opensShallow sh d L before (length marks) ≡ false → (after ≡ before) × (marks′ ≡ marks)
+abbrev pub OpensShallow : Shape → Direction → ℕ → List ℕ → List ℕ → Type 0
+OpensShallow sh d L before after = OpensIf (canOpen sh d L (length before) && shallow d) (sweepOf sh d) L before after

@@ -8,7 +8,7 @@
 --   rowsOn d m x                d or d + 1 rows, by the mark of column x
 --   Bends a b e d n m           the marks m say, for the n columns from 0 on, how many rows a line that rises b in a run of a goes aside in the next e columns: d or d + 1
 --   Rest a b x rest             what the rounding of r at x leaves over
---   Over a b e d over           what e columns have over, twice, past the d rows that they make for sure
+--   Surplus a b e d surplus     such a line goes d whole rows aside in e columns, and surplus / 2·a of a row more
 --   Marked n m                  m has a mark for each of the n columns from 0 on, or there are none at all, as no line bends
 --   nearOnly m near g j         pixel j of the row at `near`; 0 where it is marked
 --   pixelBy s forth m t there d g j             by the marks, the pixel in column there + j, d or d + 1 rows past row t
@@ -39,12 +39,12 @@ use Rattle.rows.specs.Rows.{spot, laneAt, lane, PixelsAre, rowAt}
 
 pub record Slanted (s : Sweep) (g : List ℕ) : Type 0 where
   pub sane : Sane s
-  pub next : s .major ≡ 1
-  pub apart : s .majors ≤ s .minor
-  pub room : (s .minors - 1) * s .minor + s .majors ≤ length g
+  pub next : s .«major_step» ≡ 1
+  pub apart : s .majors ≤ s .«minor_step»
+  pub room : (s .minors - 1) * s .«minor_step» + s .majors ≤ length g
 
 abbrev pub rowStart : Sweep → Bool → ℕ → ℕ
-rowStart s forth t = rowAt forth (s .minors) t * s .minor
+rowStart s forth t = rowAt forth (s .minors) t * s .«minor_step»
 
 unfoldable pub pixelPast : Bool → ℕ → ℕ → List ℕ → ℕ → ℕ → ℕ → ℕ
 pixelPast forth N S g t j d = cond (ltb (t + d) N) (getD g (rowAt forth N (t + d) * S + j) 0) 0
@@ -64,8 +64,8 @@ pub record Rest (a b x rest : ℕ) : Type 0 where
   pub sum : r a b x * (2 * a) + rest ≡ 2 * x * b + a
   pub below : rest < 2 * a
 
-abbrev pub Over : ℕ → ℕ → ℕ → ℕ → ℕ → Type 0
-Over a b e d over = (d ≡ e * b / a) × (over ≡ 2 * (e * b - d * a))
+abbrev pub Surplus : ℕ → ℕ → ℕ → ℕ → ℕ → Type 0
+Surplus a b e d surplus = (d ≡ e * b / a) × (surplus ≡ 2 * (e * b - d * a))
 
 abbrev pub Marked : ℕ → List ℕ → Type 0
 Marked n m = (length m ≡ 0) ⊎ (n ≤ length m)
@@ -76,7 +76,7 @@ abbrev pub nearOnly : List ℕ → ℕ → List ℕ → ℕ → ℕ
 nearOnly m near g j = cond (eqb (getD m j 0) 0) (getD g (near + j) 0) 0
 
 abbrev pub pixelBy : Sweep → Bool → List ℕ → ℕ → ℕ → ℕ → List ℕ → ℕ → ℕ
-pixelBy s forth m t there d g j = pixelPast forth (s .minors) (s .minor) g t (there + j) (rowsOn d m j)
+pixelBy s forth m t there d g j = pixelPast forth (s .minors) (s .«minor_step») g t (there + j) (rowsOn d m j)
 
 abbrev pub paired : Sweep → ℕ → ℕ → ℕ → Bool
 paired s here there x = leb here x && ltb (there + (x - here)) (s .majors)

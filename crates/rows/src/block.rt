@@ -79,7 +79,7 @@ fn meet_block(
     run_on(buf, s, from, length, levels, darker);
 }
 
-// Each row meets those that come next, as many as its window has, or as there are.
+// Each row meets those that come next in its window of `length` rows, as far as there are rows.
 pub(crate) fn meet_windows(
     buf: &mut [Pixel],
     s: Sweep,

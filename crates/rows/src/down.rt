@@ -19,12 +19,12 @@ fn open_lines(buf: &mut [Pixel], s: Sweep, length: usize)
 {
     let rows = s.majors;
     if rows < length {
-        clear_rows(buf, s.major, s.minors, 0, rows);
+        clear_rows(buf, s.major_step, s.minors, 0, rows);
         return;
     }
     let mut levels: [Pixel; 8192] = [0; 8192];
     meet_windows(buf, s, length, &mut levels, true);
-    clear_rows(buf, s.major, s.minors, rows + 1 - length, rows);
+    clear_rows(buf, s.major_step, s.minors, rows + 1 - length, rows);
     meet_windows(buf, s, length, &mut levels, false);
 }
 
@@ -36,16 +36,16 @@ fn swapped(s: Sweep) -> Sweep
     let rows = s.minors;
     let columns = s.majors;
     let top = rows - 1;
-    let major = s.minor;
-    let minor = s.major;
+    let major_step = s.minor_step;
+    let minor_step = s.major_step;
     let run = s.run;
     let rise = s.rise;
     let falling = s.falling;
     Sweep {
         majors: rows,
         minors: columns,
-        major,
-        minor,
+        major_step,
+        minor_step,
         run,
         rise,
         falling,
@@ -65,8 +65,8 @@ fn sweep_down(shape: Shape, d: Direction) -> Sweep
     s
 }
 
-// Opens the frame that stands in buf in a direction whose lines go down the rows: a steep one, or one of the two diagonals. Where rule 1, 2, 3 or 5 would refuse, or
-// the direction is flatter than a diagonal, nothing changes.
+// Opens the frame that stands in buf in a direction whose lines go down the rows: a steep one, or one of the two diagonals. Where rule 1, 2 or 5 would refuse, the
+// length is 0, or the direction is flatter than a diagonal, nothing changes.
 pub fn open_down(buf: &mut [Pixel], shape: Shape, d: Direction, length: usize)
     ensures { λ _. ⌜ OpensDown shape d length (now (buf .entry)) (now (buf .exit)) ⌝ }
 {

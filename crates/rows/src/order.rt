@@ -27,7 +27,7 @@ pub(crate) fn meet_next(buf: &mut [Pixel], s: Sweep, t: usize, darker: bool)
 {
     let i = row_of(s.majors, t, darker);
     let j = row_of(s.majors, t + 1, darker);
-    let stride = s.major;
+    let stride = s.major_step;
     meet_row(
         buf,
         i * stride,

@@ -4,6 +4,7 @@ use crate::clear::clear_rows;
 use crate::marks::mark_bends;
 use crate::rules::can_open;
 use crate::slant::slants;
+use answer::LONGEST;
 use frame::Direction;
 use frame::Shape;
 use frame::Sweep;
@@ -14,8 +15,8 @@ ghost use lib.ListN;
 ghost use Rattle.rows.specs.Rows.{spot, PixelsAre, OpensLines, OpensShallow};
 ghost use Rattle.rows.specs.Slants.{Slanted, Dark, edge, meeting, Grows};
 
-// The column that a dilation of the first n ends with: that of a whole block, or the row's last. The pass stores block after block from there back, and
-// a store across two cache lines costs more than some dark columns.
+// How many columns a dilation goes over that is to reach the first n: whole blocks, or the whole row. It stores block after block from the last column back,
+// and a store across two cache lines costs more than some dark columns.
 fn whole_blocks(n: usize, most: usize) -> usize
     requires { ⌜ (n ≤ most) × (most ≤ 4096) ⌝ }
     ensures { λ end. ⌜ (n ≤ end) × (end ≤ most) ⌝ }
@@ -24,8 +25,8 @@ fn whole_blocks(n: usize, most: usize) -> usize
     if end < most { end } else { most }
 }
 
-// The column from which on a pass takes all to be dark. In an erosion by windows of w columns none of these begins past it; in the dilation none of those
-// of `length` began past it, and windows of w reach w − 1 columns further.
+// The column from which on a pass takes all to be dark. After an erosion by windows of w columns: behind the last column where one begins. In the dilation:
+// behind those that windows of w columns reach from the last column where one of `length` begins, or further on, up to a whole block.
 fn first_dark(majors: usize, length: usize, w: usize, e: usize, darker: bool) -> usize
     requires { ⌜ (1 ≤ w) × (w + e ≤ length) × (length ≤ majors) × (majors ≤ 4096) ⌝ }
     ensures { λ n. ⌜ (edge darker majors length w ≤ n) × (cond darker e 0 ≤ n) × (cond darker 0 e + n ≤ majors) ⌝ }
@@ -89,22 +90,23 @@ fn grow_along(buf: &mut [Pixel], bends: &mut [u8], s: Sweep, length: usize, dark
     }
 }
 
-fn open_along(buf: &mut [Pixel], bends: &mut [u8], s: Sweep, length: usize)
-    requires { ⌜ Slanted s (now buf) × (1 ≤ length) × (s .majors ≤ lib.ListN.length (now bends)) ⌝ }
+// The erosion, and then its dilation. The marks of each pass stand in an array, which has one for each column that a frame can have.
+fn open_along(buf: &mut [Pixel], s: Sweep, length: usize)
+    requires { ⌜ Slanted s (now buf) × (1 ≤ length) ⌝ }
     ensures { λ _. ⌜ OpensLines s length (now (buf .entry)) (now (buf .exit)) ⌝ }
 {
     if s.majors < length {
-        clear_rows(buf, s.minor, s.majors, 0, s.minors);
+        clear_rows(buf, s.minor_step, s.majors, 0, s.minors);
         return;
     }
-    grow_along(buf, bends, s, length, true);
-    grow_along(buf, bends, s, length, false);
+    let mut bends: [u8; LONGEST] = [0; LONGEST];
+    grow_along(buf, &mut bends, s, length, true);
+    grow_along(buf, &mut bends, s, length, false);
 }
 
-// Opens the frame that stands in buf in a shallow direction; the marks of its passes stand in `bends`. Where rule 1, 2, 3 or 5 would refuse, the
-// direction is steep, or a row has more pixels than there is room for marks, nothing changes.
-pub fn open_shallow(buf: &mut [Pixel], bends: &mut [u8], shape: Shape, d: Direction, length: usize)
-    ensures { λ _. ⌜ OpensShallow shape d length (now (buf .entry)) (now (buf .exit)) (now (bends .entry)) (now (bends .exit)) ⌝ }
+// Opens the frame that stands in buf in a shallow direction. Where rule 1, 2 or 5 would refuse, the length is 0, or the direction is steep, nothing changes.
+pub fn open_shallow(buf: &mut [Pixel], shape: Shape, d: Direction, length: usize)
+    ensures { λ _. ⌜ OpensShallow shape d length (now (buf .entry)) (now (buf .exit)) ⌝ }
 {
     if !can_open(shape, d, length, buf.len()) {
         return;
@@ -112,8 +114,5 @@ pub fn open_shallow(buf: &mut [Pixel], bends: &mut [u8], shape: Shape, d: Direct
     if !d.is_shallow() {
         return;
     }
-    if bends.len() < shape.width {
-        return;
-    }
-    open_along(buf, bends, frame::sweep_of(shape, d), length);
+    open_along(buf, frame::sweep_of(shape, d), length);
 }

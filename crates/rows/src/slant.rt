@@ -19,10 +19,10 @@ fn start(s: Sweep, forth: bool, t: usize) -> usize
     requires { ⌜ Sane s × (t < s .minors) ⌝ }
     ensures { λ n. ⌜ n ≡ rowStart s forth t ⌝ }
 {
-    row_of(s.minors, t, forth) * s.minor
+    row_of(s.minors, t, forth) * s.minor_step
 }
 
-// The n pixels from `at` on meet those from `near` on, which stand in the frame's last row: the partner of a marked one would stand one row further.
+// The n pixels from `at` on meet those from `near` on, which stand in the last row of the count: a marked one, whose partner would stand one row further, meets 0.
 fn meet_last(buf: &mut [Pixel], bends: &[u8], at: usize, near: usize, n: usize, darker: bool)
     requires { ⌜ (at + n ≤ length (now buf)) × (near + n ≤ length (now buf)) × (1 ≤ length (now bends)) × (n ≤ length (now bends)) ⌝ }
     ensures { λ _. ⌜ Filled (now (buf .entry)) (now (buf .exit)) at (at + n) (met (op darker) (nearOnly (now (bends .entry)) near) at (now (buf .entry))) ⌝ }

@@ -3,10 +3,9 @@
 --   meet-once, meet-bent-once, meet-by-once, fade-once, blacken-once, blacken-bent-once, copy-once, claim-once    the passes over pixels
 --   open-down-once, open-shallow-once                            a frame opened where it stands
 --   claim-line-once                                              a line that claims pixels
--- Marks are the exception, as scratch is elsewhere.
 -- Assumes nothing.
 use mathlib.Core.Path.{_≡_, refl, sym, subst, _∙_}
-use mathlib.Core.Bool.{Bool, true, false}
+use mathlib.Core.Bool.{Bool, true, false, _&&_}
 use mathlib.Core.Logic.{_⊎_, inl, inr, ⊎-elim}
 use mathlib.Core.List.{List}
 use Prim.Native.Nat.{ℕ, _+_, _≤_, _<_}
@@ -14,20 +13,20 @@ use native.Mathlib.Omega.{arith}
 use lib.IntN.{ℤ}
 use lib.ListN.{length, getD}
 use Rattle.lists.specs.Stores.{Filled}
-use Rattle.lists.proofs.Cases.{less-or-not, both-left, both-right}
+use Rattle.lists.proofs.Cases.{less-or-not, both-left}
 use Rattle.lists.proofs.Stores.{filled-once}
 use Rattle.passes.specs.Passes.{Ahead, Fits, Parted, Meets, MeetsBent, MeetsBy, Fades, Clears, ClearsBent, Copies, Claims}
 use Rattle.frame.specs.declared.direction.Direction.{Direction}
 use Rattle.frame.specs.declared.shape.Shape.{Shape}
 use Rattle.frame.specs.declared.sweep.Sweep.{Sweep}
-use Rattle.frame.specs.Direction.{shallow}
+use Rattle.frame.specs.Direction.{shallow, goesDown}
 use Rattle.frame.specs.Shape.{isFrame}
 use Rattle.frame.specs.Lines.{at, place}
 use Rattle.frame.specs.Sweep as sweep
 use Rattle.frame.specs.Sweep.{sweepOf}
 use Rattle.frame.proofs.ByLines.{frames-same}
 use Rattle.gathering.specs.Claiming.{ClaimsLine}
-use Rattle.rows.specs.Rows.{spot, PixelsAre, canOpen, opensDown, OpensDown, opensShallow, OpensShallow}
+use Rattle.rows.specs.Rows.{spot, PixelsAre, canOpen, OpensIf, OpensDown, OpensShallow}
 
 -- ---- passes
 
@@ -109,9 +108,9 @@ module _ {b b₁ b₂ : List ℕ} where
 
 -- the bytes of a sweep are those of the frame's pixels, by columns where it is shallow and by rows where it is steep
 module _ {sh : Shape} {F : ℕ → ℕ → ℕ} {b b₁ b₂ : List ℕ} (s : Sweep) (ok : isFrame sh ≡ true) where
-  columns-once : (s .major ≡ 1) × (s .minor ≡ sh .stride) × (s .majors ≡ sh .width) × (s .minors ≡ sh .height)
+  columns-once : (s .«major_step» ≡ 1) × (s .«minor_step» ≡ sh .stride) × (s .majors ≡ sh .width) × (s .minors ≡ sh .height)
       → PixelsAre (spot s) (s .majors) (s .minors) F b b₁ → PixelsAre (spot s) (s .majors) (s .minors) F b b₂ → b₁ ≡ b₂
-  columns-once (major, minor, majors, minors) p q =
+  columns-once (major-step, minor-step, majors, minors) p q =
       frames-same sh b₁ b₂ ok (p .same ∙ sym (q .same))
       (λ x y h l. subst (λ (i : ℕ). getD b₁ i 0 ≡ getD b₂ i 0) (byte x y) (p .within x y (omega arith) (omega arith) ∙ sym (q .within x y (omega arith) (omega arith))))
       (λ k gap.
@@ -119,11 +118,11 @@ module _ {sh : Shape} {F : ℕ → ℕ → ℕ} {b b₁ b₂ : List ℕ} (s : Sw
       p .other k none ∙ sym (q .other k none))
     where
       byte : (x y : ℕ) → spot s x y ≡ place sh (at x y)
-      byte x y = rw (major, minor) (omega arith)
+      byte x y = rw (major-step, minor-step) (omega arith)
 
-  rows-once : (s .major ≡ sh .stride) × (s .minor ≡ 1) × (s .majors ≡ sh .height) × (s .minors ≡ sh .width)
+  rows-once : (s .«major_step» ≡ sh .stride) × (s .«minor_step» ≡ 1) × (s .majors ≡ sh .height) × (s .minors ≡ sh .width)
       → PixelsAre (spot s) (s .majors) (s .minors) F b b₁ → PixelsAre (spot s) (s .majors) (s .minors) F b b₂ → b₁ ≡ b₂
-  rows-once (major, minor, majors, minors) p q =
+  rows-once (major-step, minor-step, majors, minors) p q =
       frames-same sh b₁ b₂ ok (p .same ∙ sym (q .same))
       (λ x y h l. subst (λ (i : ℕ). getD b₁ i 0 ≡ getD b₂ i 0) (byte y x) (p .within y x (omega arith) (omega arith) ∙ sym (q .within y x (omega arith) (omega arith))))
       (λ k gap.
@@ -131,36 +130,36 @@ module _ {sh : Shape} {F : ℕ → ℕ → ℕ} {b b₁ b₂ : List ℕ} (s : Sw
       p .other k none ∙ sym (q .other k none))
     where
       byte : (y x : ℕ) → spot s y x ≡ place sh (at x y)
-      byte y x = rw (major, minor) (omega arith)
+      byte y x = rw (major-step, minor-step) (omega arith)
 
 columns : (sh : Shape) (d : Direction) → shallow d ≡ true
-    → (sweepOf sh d .major ≡ 1) × (sweepOf sh d .minor ≡ sh .stride) × (sweepOf sh d .majors ≡ sh .width) × (sweepOf sh d .minors ≡ sh .height)
+    → (sweepOf sh d .«major_step» ≡ 1) × (sweepOf sh d .«minor_step» ≡ sh .stride) × (sweepOf sh d .majors ≡ sh .width) × (sweepOf sh d .minors ≡ sh .height)
 unfolding sweep.sweepOf
 columns sh d e = (rw e, rw e, rw e, rw e)
 
 rows : (sh : Shape) (d : Direction) → shallow d ≡ false
-    → (sweepOf sh d .major ≡ sh .stride) × (sweepOf sh d .minor ≡ 1) × (sweepOf sh d .majors ≡ sh .height) × (sweepOf sh d .minors ≡ sh .width)
+    → (sweepOf sh d .«major_step» ≡ sh .stride) × (sweepOf sh d .«minor_step» ≡ 1) × (sweepOf sh d .majors ≡ sh .height) × (sweepOf sh d .minors ≡ sh .width)
 unfolding sweep.sweepOf
 rows sh d e = (rw e, rw e, rw e, rw e)
 
-pub open-down-once : {sh : Shape} {d : Direction} {L : ℕ} {b b₁ b₂ : List ℕ} → OpensDown sh d L b b₁ → OpensDown sh d L b b₂ → b₁ ≡ b₂
-open-down-once {sh} {d} {L} {b} {b₁} {b₂} p q = go (opensDown sh d L b) refl
+-- whichever way the lines have to go
+opens-once : (sh : Shape) (d : Direction) (L : ℕ) (way : Bool) {b b₁ b₂ : List ℕ} → OpensIf (canOpen sh d L (length b) && way) (sweepOf sh d) L b b₁
+    → OpensIf (canOpen sh d L (length b) && way) (sweepOf sh d) L b b₂ → b₁ ≡ b₂
+opens-once sh d L way {b} {b₁} {b₂} p q = go (canOpen sh d L (length b) && way) refl
   where
-    either : (t : Bool) → shallow d ≡ t → opensDown sh d L b ≡ true → b₁ ≡ b₂
-    either true flat e = columns-once (sweepOf sh d) (both-left (isFrame sh) _ (both-left (canOpen sh d L (length b)) _ e)) (columns sh d flat) (p .done e) (q .done e)
-    either false steep e = rows-once (sweepOf sh d) (both-left (isFrame sh) _ (both-left (canOpen sh d L (length b)) _ e)) (rows sh d steep) (p .done e) (q .done e)
+    either : (t : Bool) → shallow d ≡ t → (canOpen sh d L (length b) && way) ≡ true → b₁ ≡ b₂
+    either true flat e = columns-once (sweepOf sh d) (both-left (isFrame sh) _ (both-left (canOpen sh d L (length b)) way e)) (columns sh d flat) (p .done e) (q .done e)
+    either false steep e = rows-once (sweepOf sh d) (both-left (isFrame sh) _ (both-left (canOpen sh d L (length b)) way e)) (rows sh d steep) (p .done e) (q .done e)
 
-    go : (t : Bool) → opensDown sh d L b ≡ t → b₁ ≡ b₂
+    go : (t : Bool) → (canOpen sh d L (length b) && way) ≡ t → b₁ ≡ b₂
     go true e = either (shallow d) refl e
     go false e = p .none e ∙ sym (q .none e)
 
-pub open-shallow-once : {sh : Shape} {d : Direction} {L : ℕ} {b b₁ b₂ m m₁ m₂ : List ℕ} → OpensShallow sh d L b b₁ m m₁ → OpensShallow sh d L b b₂ m m₂ → b₁ ≡ b₂
-open-shallow-once {sh} {d} {L} {b} {b₁} {b₂} {m} p q = go (opensShallow sh d L b (length m)) refl
-  where
-    go : (t : Bool) → opensShallow sh d L b (length m) ≡ t → b₁ ≡ b₂
-    go true e =
-        columns-once (sweepOf sh d) (both-left (isFrame sh) _ (both-left (canOpen sh d L (length b)) _ e)) (columns sh d (both-left (shallow d) _ (both-right (canOpen sh d L (length b)) _ e))) (p .done e) (q .done e)
-    go false e = p .none e .0 ∙ sym (q .none e .0)
+pub open-down-once : {sh : Shape} {d : Direction} {L : ℕ} {b b₁ b₂ : List ℕ} → OpensDown sh d L b b₁ → OpensDown sh d L b b₂ → b₁ ≡ b₂
+open-down-once {sh} {d} {L} = opens-once sh d L (goesDown d)
+
+pub open-shallow-once : {sh : Shape} {d : Direction} {L : ℕ} {b b₁ b₂ : List ℕ} → OpensShallow sh d L b b₁ → OpensShallow sh d L b b₂ → b₁ ≡ b₂
+open-shallow-once {sh} {d} {L} = opens-once sh d L (shallow d)
 
 -- ---- a line put back
 

@@ -2,7 +2,7 @@
 --   Marked        P1 to P12 hold of the definitions
 --   Versions      wrong versions of a call, each refused by the contract on an input that is written out
 --   Refusals      demand 1: a call is done if and only if no rule is broken; a refused one changes nothing
---   Openings      demand 2: openings, erosion, dilation, the highest over sixteen directions and its direction, value by value
+--   Openings      demand 2: openings, erosion, dilation, the highest over sixteen directions and its direction, value by value; the lent row
 --   Sums          demand 2: size sums, the rose, the summary
 --   Stretches     demand 3: the list of bright stretches; openings and size sums from it
 --   Texts         the sums text and the programs: what is written and read, the example byte for byte

@@ -7,14 +7,18 @@
 --   highest-is, direction-is                     each pixel of the highest over sixteen directions, and of the direction frame
 --   frame-no-brighter, highest-no-brighter       no pixel of an opened frame, nor of the highest opening, is brighter than the pixel it came from
 --   frame-gaps, highest-gaps, direction-gaps     bytes that are no pixel's never change
+--   row-is, row-none                             the lent row, bytes of the caller's slice; the empty part where there is no such row
+--   row-its-own                                  it is no other row, were it the same pixel by pixel
 -- Assumes nothing.
 use mathlib.Core.Path.{_≡_, refl, sym, ap, subst, _∙_}
+use mathlib.Core.Bool.{true, false}
 use mathlib.Core.List.{List, [], _∷_, map}
-use Prim.Native.Nat.{ℕ, zero, suc, _+_, _≤_, _<_}
+use Prim.Native.Nat.{ℕ, zero, suc, _+_, _*_, _≤_, _<_}
 use native.Mathlib.Omega.{arith}
 use lib.IntN.{ℤ}
 use lib.ListN.{length, getD, length-map}
 use lib.Seq.{ext-getD}
+use denote.Ref.{RefT}
 use Rattle.lists.specs.Stores.{front}
 use Rattle.lists.proofs.Stores.{front-at, front-past}
 use Rattle.answer.specs.declared.Answer.{Answer}
@@ -29,15 +33,20 @@ use Rattle.line.proofs.Laws.{opened-below}
 use Rattle.frame.specs.declared.direction.Direction.{Direction}
 use Rattle.frame.specs.declared.shape.Shape.{Shape}
 use Rattle.frame.specs.Direction.{numberedOf}
+use Rattle.frame.specs.Shape.{isFrame, needed}
 use Rattle.frame.specs.Lines.{Pixel, at, lineOf, pixels, place, gathered, lineRead, pixelsFor, indexIn}
+use Rattle.frame.specs.Painted.{Gap}
+use Rattle.frame.proofs.Shapes.{framed}
+use Rattle.frame.proofs.Partition.{flat}
 use Rattle.frame.proofs.Pixels.{its-line}
-use Rattle.frame.proofs.ByLines.{Gap}
+use Rattle.gathering.specs.Rows.{hasRow, LendsRow}
+use Rattle.gathering.proofs.LentRows.{row-from, row-length, row-pixel}
 use Rattle.opening.specs.Pixels.{openedPixel, inDirection}
 use Rattle.opening.specs.Frames.{OpensFrame}
 use Rattle.opening.specs.Sixteen.{FindsHighest}
 use Rattle.opening.specs.Directions.{FindsDirections}
 use Rattle.opening.proofs.Calls.{open-ready, highest-ready}
-use Rattle.theorems.specs.Equation.{Darkest, Dilates, Opens, OpenedOn, Highest, Leads}
+use Rattle.theorems.specs.Equation.{Darkest, Dilates, Opens, OpenedOn, PartOf, Highest, Leads}
 use Rattle.theorems.proofs.Facts.{darkest-is, dilated-is, opened-is, opens-below, index-is, entry-in, entry-index, highest-of, leads-of}
 
 -- ---- lines
@@ -180,3 +189,30 @@ module _ {f : List ℕ} {sh : Shape} {L : ℕ} {g g′ t t′ : List ℕ} {a : A
 
   pub direction-gaps : FindsDirections f sh L g g′ t t′ a → a .number ≡ 0 → (i : ℕ) → Gap sh i → getD g′ i 0 ≡ getD g i 0
   direction-gaps p z = p .done z .gaps
+
+-- ---- the lent row
+
+-- 'A row of a frame is lent back without its gap, as the W bytes themselves in the caller's slice.'
+pub row-is : {src part : RefT (List ℕ)} {sh : Shape} {y : ℕ} → LendsRow src sh y part → isFrame sh ≡ true → needed sh ≤ length (src .now) → y < sh .height
+    → PartOf src (y * sh .stride) (sh .width) part
+row-is {src} {part} {sh} {y} p ok fits here =
+    record {
+      memory = p .memory;
+      begins = p .begins ∙ ap (λ (n : ℕ). src .ptr .1 + n) (row-from (src .now) sh y ok fits here);
+      size = ap length (p .contents) ∙ row-length (src .now) sh y ok fits here;
+      bytes = λ x h. ap (λ (l : List ℕ). getD l x 0) (p .contents) ∙ row-pixel (src .now) sh y ok fits here x h;
+    }
+
+-- 'A row number of H or more, or a frame that rule 1 or 5 refuses, gives the empty part.'
+pub row-none : {src part : RefT (List ℕ)} {sh : Shape} {y : ℕ} → LendsRow src sh y part → hasRow sh y (length (src .now)) ≡ false → PartOf src 0 0 part
+row-none p none =
+    record { memory = p .memory; begins = rw none at (p .begins); size = ap length (rw none at (p .contents)); bytes = λ x h. absurd (omega arith) }
+
+-- one part is not lent as two rows of a frame
+pub row-its-own : {src part : RefT (List ℕ)} {sh : Shape} {y z : ℕ} → LendsRow src sh y part → LendsRow src sh z part → isFrame sh ≡ true
+    → needed sh ≤ length (src .now) → y < sh .height → z < sh .height → y ≡ z
+row-its-own {src} {part} {sh} {y} {z} p q ok fits here there =
+    let shaped = framed sh ok in
+    let first = row-is p ok fits here .begins in
+    let second = row-is q ok fits there .begins in
+    flat (sh .stride) 0 y 0 z (omega (arith, shaped)) (omega (arith, shaped)) (omega arith) .1

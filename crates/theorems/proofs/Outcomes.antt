@@ -1,12 +1,12 @@
 -- 'It is shown that one input allows one outcome only; scratch after a done call is the exception.' For each call: two outcomes that its contract allows
 -- of one input are the same. What scratch holds after a refusal is in Refusals: it is unchanged.
 --   erode-once, dilate-once, open-line-once
---   gather-once, scatter-once, raise-once
+--   gather-once, scatter-once, raise-once, row-once
 --   open-frame-once, highest-once, directions-once, host-once
 --   list-once, next-once
 --   sums-of-line-once, sums-of-frame-once, rose-once
 --   sums-text-once, read-input-once, line-text-once, refusal-text-once
--- The contract of every other call is an equation `answer ≡ definition`, which one value alone meets: `row`, `lines_of`, `line_number`, `sweep_of`, `track_of`,
+-- The contract of every other call is an equation `answer ≡ definition`, which one value alone meets: `lines_of`, `line_number`, `sweep_of`, `track_of`,
 -- `shift_at`, `numbered`, `turned`, `is_shallow`, `goes_down`, `is_direction`, `is_frame`, `bytes`, `scratch`, `gapless`, `begin`, `count`, `rose_refusal`,
 -- `summarize`, `is_outside`, `growth`, `open_in_place`, `done`, `refused`, `unless`, `needing`. Engines has the calls that only other crates of the library make.
 -- Assumes nothing.
@@ -16,6 +16,7 @@ use mathlib.Core.List.{List, map}
 use Prim.Native.Nat.{ℕ, _-_}
 use lib.ListN.{length}
 use lib.IntN.{ℤ}
+use denote.Ref.{RefT}
 use Rattle.lists.specs.Stores.{front}
 use Rattle.answer.specs.declared.Answer.{Answer}
 use Rattle.answer.specs.Rules.{after}
@@ -28,6 +29,7 @@ use Rattle.frame.specs.declared.shape.Shape.{Shape}
 use Rattle.frame.specs.Lines.{pixels, place, lineRead}
 use Rattle.gathering.specs.Gathering.{Gathers}
 use Rattle.gathering.specs.Scattering.{stored, raised, Scatters, Raises}
+use Rattle.gathering.specs.Rows.{LendsRow}
 use Rattle.opening.specs.Frames.{OpensFrame}
 use Rattle.opening.specs.Sixteen.{FindsHighest}
 use Rattle.opening.specs.Directions.{FindsDirections}
@@ -82,6 +84,11 @@ module _ {src : List ℕ} {sh : Shape} {d : Direction} {k : ℤ} {dst dst₁ dst
   raise-once p q =
       let e : a₁ ≡ a₂ = p .answers ∙ sym (q .answers) in
       (e, alike (raised (map (place sh) (pixels sh d k)) src dst) dst e (p .written) (q .written))
+
+-- the lent part: the memory it stands in, where it begins there, and its bytes
+pub row-once : {src p₁ p₂ : RefT (List ℕ)} {sh : Shape} {y : ℕ} → LendsRow src sh y p₁ → LendsRow src sh y p₂
+    → (p₁ .ptr .0 ≡ p₂ .ptr .0) × (p₁ .ptr .1 ≡ p₂ .ptr .1) × (p₁ .now ≡ p₂ .now)
+row-once p q = (p .memory ∙ sym (q .memory), p .begins ∙ sym (q .begins), p .contents ∙ sym (q .contents))
 
 module _ {f : List ℕ} {sh : Shape} {L : ℕ} {g g₁ g₂ t t₁ t₂ : List ℕ} where
   pub open-frame-once : {d : Direction} {a₁ a₂ : Answer} → OpensFrame f sh d L g g₁ t t₁ a₁ → OpensFrame f sh d L g g₂ t t₂ a₂ → (a₁ ≡ a₂) × (g₁ ≡ g₂)

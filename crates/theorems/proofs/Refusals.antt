@@ -98,8 +98,7 @@ module _ {src dst dst′ : List ℕ} {L : ℕ} {a : Answer} where
 
 pub open-line-settled : {src dst dst′ scratch scratch′ : List ℕ} {L : ℕ} {a : Answer} → OpensLine src L dst dst′ scratch scratch′ a
     → Settled (line.openRules (length src) L (length dst) (length scratch)) 0 a ((dst′ ≡ dst) × (scratch′ ≡ scratch))
-open-line-settled {dst = dst} {scratch = scratch} {a = a} p =
-    settled _ _ refl (p .answers) (λ r. (p .written ∙ after-refused a _ dst r, p .scratch-kept ∙ after-refused a _ scratch r))
+open-line-settled {dst = dst} {a = a} p = settled _ _ refl (p .answers) (λ r. (p .written ∙ after-refused a _ dst r, p .scratch-kept r))
 
 module _ {src : List ℕ} {sh : Shape} {d : Direction} {k : ℤ} {dst dst′ : List ℕ} {a : Answer} where
   pub gather-settled : Gathers src sh d k dst dst′ a → Settled (gatherRules sh d k (length src) (length dst)) (length (pixels sh d k)) a (dst′ ≡ dst)

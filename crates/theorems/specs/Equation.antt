@@ -5,6 +5,7 @@
 --   Opens f L x v         equation (3): v is the highest of the darkest values of the windows that hold x, and 0 where no window fits
 --   OnItsLine sh d x y j  pixel (x, y) is number j of its own line
 --   OpenedOn f sh d L x y v    v is pixel (x, y) of the frame f opened in direction d
+--   PartOf src from n part    part is the n bytes of the slice src from byte `from` on, themselves: in the same memory, at the same place there
 --   Highest F v           v is the greatest of F at the sixteen direction numbers
 --   Leads F n             n is the lowest direction number at which F is greatest
 -- Laws: theorems/proofs/Openings.
@@ -13,6 +14,7 @@ use mathlib.Core.List.{List}
 use mathlib.Core.Logic.{_⊎_}
 use Prim.Native.Nat.{ℕ, _+_, _≤_, _<_}
 use lib.ListN.{length, getD}
+use denote.Ref.{RefT}
 use Rattle.frame.specs.declared.direction.Direction.{Direction}
 use Rattle.frame.specs.declared.shape.Shape.{Shape}
 use Rattle.frame.specs.Lines.{at, lineOf, pixels, lineRead, pixelsFor}
@@ -48,6 +50,13 @@ pub record OpenedOn (f : List ℕ) (sh : Shape) (d : Direction) (L x y v : ℕ) 
   pub j : ℕ
   pub stands : OnItsLine sh d x y j
   pub opens : Opens (lineRead f sh d (lineOf d x y)) (pixelsFor d L) j v
+
+-- 'the W bytes themselves in the caller's slice'
+pub record PartOf (src : RefT (List ℕ)) (from n : ℕ) (part : RefT (List ℕ)) : Type 0 where
+  pub memory : part .ptr .0 ≡ src .ptr .0
+  pub begins : part .ptr .1 ≡ src .ptr .1 + from
+  pub size : length (part .now) ≡ n
+  pub bytes : (x : ℕ) → x < n → getD (part .now) x 0 ≡ getD (src .now) (from + x) 0
 
 -- 'the highest over sixteen directions'
 pub record Highest (F : ℕ → ℕ) (v : ℕ) : Type 0 where

@@ -14,19 +14,19 @@ mul-result : tie.Need-mul-result
 mul-result c =
     let a = c .before .args in
     let sane = c .before .pre .0 in
-    omega (arith, small (a .i) (a .s .major) (omega (arith, sane)) (sane .major))
+    omega (arith, small (a .i) (a .s .«major_step») (omega (arith, sane)) (sane .«major_step»))
 
 mul-result-2 : tie.Need-mul-result-2
 mul-result-2 c =
     let a = c .before .before .args in
     let sane = c .before .before .pre .0 in
-    omega (arith, small (a .j) (a .s .minor) (omega (arith, sane)) (sane .minor))
+    omega (arith, small (a .j) (a .s .«minor_step») (omega (arith, sane)) (sane .«minor_step»))
 
 add-result : tie.Need-add-result
 add-result c =
     let a = c .before .before .args in
     let sane = c .before .before .pre .0 in
-    omega (arith, small (a .i) (a .s .major) (omega (arith, sane)) (sane .major), small (a .j) (a .s .minor) (omega (arith, sane)) (sane .minor))
+    omega (arith, small (a .i) (a .s .«major_step») (omega (arith, sane)) (sane .«major_step»), small (a .j) (a .s .«minor_step») (omega (arith, sane)) (sane .«minor_step»))
 
 returns : tie.Need-returns
 returns c = search needs

@@ -1,6 +1,6 @@
 -- Each way out has made the tests that decide; a row ends within what the frame needs, and that is within the slice.
-use mathlib.Core.Path.{_≡_, sym, _∙_}
-use mathlib.Core.Bool.{true}
+use mathlib.Core.Path.{_≡_, refl, sym, _∙_}
+use mathlib.Core.Bool.{true, false}
 use Prim.Native.Nat.{_+_, _-_, _*_, _≤_}
 use native.Mathlib.Omega.{arith}
 use borrow.Author.Tests.{not-true, not-false, le-leb, lt-leb, lt-ltb, le-ltb}
@@ -26,8 +26,8 @@ part-result-end c = search needs
 
 returns : tie.Need-returns
 returns c =
-    let frame = sym (c .before .before .is-frame .ensures) ∙ not-true _ (c .before .if1 .taken) in
-    rw frame
+    let refused : isFrame (c .before .before .before .before .args .shape) ≡ false = sym (c .before .before .is-frame .ensures) ∙ not-true _ (c .before .if1 .taken) in
+    record { memory = refl; begins = rw refused (omega arith); contents = rw refused }
 
 frame : (c : tie.Else1) → isFrame (c .before .before .before .args .shape) ≡ true
 frame c = sym (c .before .is-frame .ensures) ∙ not-false _ (c .if1 .left)
@@ -50,8 +50,9 @@ part-result-end-2 c = search needs
 
 returns-2 : tie.Need-returns-2
 returns-2 c =
+    let framed = frame (c .before .before .before) in
     let short = lt-leb _ _ (rw (bytes-are (c .before .before)) at (c .before .if2 .taken)) in
-    rw (frame (c .before .before .before), short)
+    record { memory = refl; begins = rw (framed, short) (omega arith); contents = rw (framed, short) }
 
 sub-result-3 : tie.Need-sub-result-3
 sub-result-3 c = search needs
@@ -64,9 +65,10 @@ part-result-end-3 c = search needs
 
 returns-3 : tie.Need-returns-3
 returns-3 c =
+    let framed = frame (c .before .before .before .before) in
     let whole = le-leb _ _ (rw (bytes-are (c .before .before .before)) at (c .before .before .if2 .left)) in
     let none = le-ltb _ _ (c .before .if3 .taken) in
-    rw (frame (c .before .before .before .before), whole, none)
+    record { memory = refl; begins = rw (framed, whole, none) (omega arith); contents = rw (framed, whole, none) }
 
 within : (c : tie.Else3) → (let a = c .before .before .before .before .before .before .args in a .y * a .shape .stride + a .shape .width ≤ length (a .src .now))
 within c =
@@ -86,16 +88,17 @@ part-result-start-4 : tie.Need-part-result-start-4
 part-result-start-4 c = search needs
 
 part-result-end-4 : tie.Need-part-result-end-4
-part-result-end-4 c = within (c .before .before)
+part-result-end-4 c = omega (arith, within (c .before .before))
 
 returns-4 : tie.Need-returns-4
 returns-4 c =
     let a = c .before .before .before .before .before .before .before .before .before .args in
     let from = a .y * a .shape .stride in
     let wide : from + a .shape .width - from ≡ a .shape .width = omega arith in
+    let framed = frame (c .before .before .before .before .before .before) in
     let whole = le-leb _ _ (rw (bytes-are (c .before .before .before .before .before)) at (c .before .before .before .before .if2 .left)) in
     let there = lt-ltb _ _ (c .before .before .before .if3 .left) in
-    rw (wide, frame (c .before .before .before .before .before .before), whole, there)
+    record { memory = refl; begins = rw (framed, whole, there) (omega arith); contents = rw (wide, framed, whole, there) }
 
 pub row-spec : {M : Type 1} → statement M
 row-spec =

@@ -2,7 +2,7 @@
 use mathlib.Core.Path.{refl, sym}
 use lib.ListN.{length}
 use lib.Seq.{length-take-le}
-use Rattle.answer.proofs.Rules.{after-done, after-refused, front-done}
+use Rattle.answer.proofs.Rules.{after-refused, front-done}
 use Rattle.line.specs.Windows.{opened}
 use Rattle.line.proofs.Windows.{opened-length}
 use Rattle.line.proofs.Calls.{opening-fits}
@@ -20,7 +20,7 @@ returns c =
     record {
       answers = c .before .before .refusal .ensures;
       written = sym (after-refused a _ _ refused);
-      scratch-kept = sym (after-refused a _ _ refused);
+      scratch-kept = λ r. refl;
       scratch-length = refl;
     }
 
@@ -63,7 +63,7 @@ returns-2 c =
     record {
       answers = c .before .before .before .before .before .before .refusal .ensures;
       written = front-done a (opened src L) _ done (length src) (opened-length src L) (c .before .before .opened-into .ensures);
-      scratch-kept = sym (after-done a _ _ done);
+      scratch-kept = λ r. refl;
       scratch-length = refl;
     }
 

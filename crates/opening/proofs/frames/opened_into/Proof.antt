@@ -5,7 +5,6 @@ use native.Mathlib.Nat.{le-of-lt}
 use native.Mathlib.Omega.{arith}
 use borrow.Author.Tests.{leb-false, le-leb}
 use lib.IntN.{natAbs}
-use lib.Seq.{length-take-le}
 use mir.Syntax.{w64}
 use mir.Val.{toZ}
 use Rattle.frame.specs.Shape.{shape}
@@ -14,7 +13,7 @@ use Rattle.frame.proofs.Shapes.{framed}
 use Rattle.frame.proofs.Signs.{back}
 use Rattle.opening.specs.Pixels.{openedPixel}
 use Rattle.opening.proofs.Along.{along-opened}
-use Rattle.opening.proofs.Inplace.{front-room, opened-down, opened-shallow}
+use Rattle.opening.proofs.Inplace.{opened-copy}
 use borrow.Author.Needs.{needs}
 use Rattle.opening.proofs.frames.opened_into.Statement.{statement}
 use Rattle.opening.proofs.frames.opened_into.Tie as tie
@@ -59,18 +58,8 @@ returns-2 c =
     let a = c .before .before .before .before .before .before .before .before .before .before .before .before .before .before .args in
     let pre = c .before .before .before .before .before .before .before .before .before .before .before .before .before .before .pre in
     let down = sym (c .before .before .before .before .before .goes-down .ensures) ∙ c .before .before .before .before .if2 .taken in
-    opened-down (a .src .now) (a .shape) (a .d) (a .stride) (pre .0) (pre .3) (pre .1) (c .before .before .before .before .before .before .before .before .open-rows2 .ensures) (a .length) (pre .2) down (pre .4)
+    opened-copy (a .src .now) (a .shape) (a .d) (a .stride) (pre .0) (pre .3) (pre .1) (c .before .before .before .before .before .before .before .before .open-rows2 .ensures) (a .length) (pre .2) down (pre .4)
     (c .before .before .open-down .ensures)
-
-array-borrow-prefix-bends : tie.Need-array-borrow-prefix-bends
-array-borrow-prefix-bends c =
-    let b = c .before .before .before .before .before .before .before .before .before .before .before in
-    omega (arith, framed (b .args .shape) (b .pre .0))
-
-slice-aggregate-open-shallow : tie.Need-slice-aggregate-open-shallow
-slice-aggregate-open-shallow c =
-    let b = c .before .before .before .before .before .before .before .before .before .before .before .before in
-    sym (length-take-le _ _ (omega (arith, framed (b .args .shape) (b .pre .0))))
 
 open-shallow-requires : tie.Need-open-shallow-requires
 open-shallow-requires c κs = search needs
@@ -80,11 +69,12 @@ same-length-3 c = search needs
 
 returns-3 : tie.Need-returns-3
 returns-3 c =
-    let a = c .before .before .before .before .before .before .before .before .before .before .before .before .before .before .before .before .args in
-    let pre = c .before .before .before .before .before .before .before .before .before .before .before .before .before .before .before .before .pre in
-    let flat = le-leb (natAbs (a .d .q)) (natAbs (a .d .p)) (le-of-lt (leb-false (natAbs (a .d .p)) (natAbs (a .d .q)) (sym (c .before .before .before .before .before .before .before .goes-down .ensures) ∙ c .before .before .before .before .before .before .if2 .left))) in
-    opened-shallow (a .src .now) (a .shape) (a .d) (a .stride) (pre .0) (pre .3) (pre .1) (c .before .before .before .before .before .before .before .before .before .before .open-rows2 .ensures) (a .length) (pre .2) flat (pre .4)
-    (c .before .before .before .open-shallow .ensures) (front-room _ _ (omega (arith, framed (a .shape) (pre .0))))
+    let a = c .before .before .before .before .before .before .before .before .before .before .before .before .before .before .args in
+    let pre = c .before .before .before .before .before .before .before .before .before .before .before .before .before .before .pre in
+    let flatter = sym (c .before .before .before .before .before .goes-down .ensures) ∙ c .before .before .before .before .if2 .left in
+    let flat = le-leb (natAbs (a .d .q)) (natAbs (a .d .p)) (le-of-lt (leb-false (natAbs (a .d .p)) (natAbs (a .d .q)) flatter)) in
+    opened-copy (a .src .now) (a .shape) (a .d) (a .stride) (pre .0) (pre .3) (pre .1) (c .before .before .before .before .before .before .before .before .open-rows2 .ensures) (a .length) (pre .2) flat (pre .4)
+    (c .before .before .open-shallow .ensures)
 
 pub opened-into-spec : {M : Type 1} → statement M
 opened-into-spec =
@@ -98,8 +88,6 @@ opened-into-spec =
     open-down-requires
     same-length-2
     returns-2
-    array-borrow-prefix-bends
-    slice-aggregate-open-shallow
     open-shallow-requires
     same-length-3
     returns-3)

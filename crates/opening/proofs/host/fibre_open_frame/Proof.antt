@@ -17,8 +17,8 @@ use Rattle.opening.proofs.host.fibre_open_frame.Tie as tie
 open-frame-requires : tie.Need-open-frame-requires
 open-frame-requires c κs = search needs
 
-pack-requires : tie.Need-pack-requires
-pack-requires c κs = search needs
+one-number-requires : tie.Need-one-number-requires
+one-number-requires c κs = search needs
 
 same-length : tie.Need-same-length
 same-length c = search needs
@@ -39,8 +39,8 @@ returns c =
     (ap₂ dir (toZ-ofZ (fits .p)) (toZ-ofZ (fits .q))) (opened .ensures) in
     let small = open-figure frame (a .length) (size (a .src .now)) (size (a .dst .now)) (size (a .scratch .now)) (dir (a .p) (a .q)) in
     let fitting = mod-eq-of-lt (subst (λ (z : Answer). z .figure < 2 ^ 32) (sym (opens .answers)) small) in
-    record { a = opened .result; opens = opens; gives = c .pack .ensures ∙ ap (λ (n : ℕ). opened .result .number * 2 ^ 32 + n) fitting }
+    record { a = opened .result; opens = opens; gives = c .one-number .ensures ∙ ap (λ (n : ℕ). opened .result .number * 2 ^ 32 + n) fitting }
 
 pub fibre-open-frame-spec : {M : Type 1} → statement M
 fibre-open-frame-spec =
-    tie.close (tie.spec open-frame-requires pack-requires same-length same-length-2 returns)
+    tie.close (tie.spec open-frame-requires one-number-requires same-length same-length-2 returns)

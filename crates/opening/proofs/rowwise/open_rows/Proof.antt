@@ -59,7 +59,7 @@ open-row-requires c κs =
     let from = loop .y * a .stride in
     let long = row-length (a .src .now) (a .frame) (loop .y) (pre .0) (pre .3) (omega (arith, c .before .before .if1 .taken)) in
     let fits = row-ends (shape (a .frame .width) (a .frame .height) (a .stride)) (loop .y) (omega (arith, c .before .before .if1 .taken)) in
-    let row : size (c .before .row .result .now) ≡ a .frame .width = ap size (c .before .row .ensures) ∙ long in
+    let row : size (c .before .row .result .now) ≡ a .frame .width = ap size (c .before .row .ensures .contents) ∙ long in
     let part = part-length from (a .frame .width) (loop .dst) (omega (arith, loop .inv .1 .same, fits, pre .4)) in
     (pre .2, part ∙ sym row)
 
@@ -78,7 +78,7 @@ loop-again c =
     let taken = c .before .before .before .before .before .if1 .taken in
     let fits = row-ends (shape (a .frame .width) (a .frame .height) (a .stride)) (loop .y) (omega (arith, taken)) in
     let part = part-length from (a .frame .width) (loop .dst) (omega (arith, loop .inv .1 .same, fits, pre .4)) in
-    let vals = c .before .before .open-row .ensures ∙ ap (λ (l : List ℕ). opened l (a .length)) (c .before .before .before .before .row .ensures) in (
+    let vals = c .before .before .open-row .ensures ∙ ap (λ (l : List ℕ). opened l (a .length)) (c .before .before .before .before .row .ensures .contents) in (
       omega (arith, taken),
       rows-put (a .frame .width) (a .stride) _ (c .before .before .open-row .last .1 .1 .0) (loop .y) (pre .1)
           (omega (arith, loop .inv .1 .same, fits, pre .4)) (loop .inv .1)

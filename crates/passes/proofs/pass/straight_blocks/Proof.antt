@@ -18,23 +18,23 @@ abbrev μ-loop : tie.MeasureT-loop
 loop-holds : tie.Need-loop-holds Inv-loop μ-loop
 loop-holds c = let a = c .before .args in (omega arith, met-none (op (a .darker)) (straight (a .from)) (a .at) (a .n) (a .up) (a .buf .now))
 
-place-requires : tie.Need-place-requires Inv-loop μ-loop
-place-requires c κs = search needs
+block-at-requires : tie.Need-block-at-requires Inv-loop μ-loop
+block-at-requires c κs = search needs
 
 straight-block-requires : tie.Need-straight-block-requires Inv-loop μ-loop
 straight-block-requires c κs =
     let p = c .before .before .before .before .before .pre in
-    let room = c .before .place .ensures .1 in
+    let room = c .before .block-at .ensures .1 in
     let same = c .before .before .before .loop .inv .1 .same in
     (omega arith, omega (arith, room, same, p .0), omega (arith, room, same, p .1))
 
 add-put-block : tie.Need-add-put-block Inv-loop μ-loop
-add-put-block c = let room = c .before .before .before .place .ensures .1 in omega (arith, room)
+add-put-block c = let room = c .before .before .before .block-at .ensures .1 in omega (arith, room)
 
 put-block-requires : tie.Need-put-block-requires Inv-loop μ-loop
 put-block-requires c κs =
     let p = c .before .before .before .before .before .before .before .pre in
-    (omega arith, omega (arith, c .before .before .before .place .ensures .1, c .before .before .before .before .before .loop .inv .1 .same, p .0))
+    (omega arith, omega (arith, c .before .before .before .block-at .ensures .1, c .before .before .before .before .before .loop .inv .1 .same, p .0))
 
 add-k : tie.Need-add-k Inv-loop μ-loop
 add-k c = search needs
@@ -48,10 +48,10 @@ loop-again c =
     let p = c .before .before .before .before .before .before .before .before .before .before .pre in
     let at = c .before .before .before .before .before .before .before .before .loop in
     let more = c .before .before .before .before .before .before .before .loop-test .taken in
-    let place = c .before .before .before .before .before .before .place in
+    let block-at = c .before .before .before .before .before .before .block-at in
     let block = c .before .before .before .before .straight-block in (
       omega (arith, more),
-      met-more (op (a .darker)) (straight (a .from)) (a .at) (a .n) (a .up) (straight-keeps (p .2)) (block .result) (at .k) (place .result) (place .ensures .0)
+      met-more (op (a .darker)) (straight (a .from)) (a .at) (a .n) (a .up) (straight-keeps (p .2)) (block .result) (at .k) (block-at .result) (block-at .ensures .0)
           (at .inv .1) (omega (arith, more)) (block .ensures) (c .before .before .put-block .ensures),
     )
 
@@ -73,7 +73,7 @@ straight-blocks-spec =
     Inv-loop
     μ-loop
     loop-holds
-    place-requires
+    block-at-requires
     straight-block-requires
     add-put-block
     put-block-requires

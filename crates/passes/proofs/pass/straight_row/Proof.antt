@@ -22,17 +22,17 @@ returns c =
     let block = c .before .before .before .before .straight-block in
     met-once (op (a .darker)) (straight (a .from)) (a .at) (a .n) (block .result) (block .ensures) (c .before .before .put-block .ensures)
 
-place-requires : tie.Need-place-requires
-place-requires c κs = search needs
+block-at-requires : tie.Need-block-at-requires
+block-at-requires c κs = search needs
 
 sub-j : tie.Need-sub-j
 sub-j c = search needs
 
-place-requires-2 : tie.Need-place-requires-2
-place-requires-2 c κs = search needs
+block-at-requires-2 : tie.Need-block-at-requires-2
+block-at-requires-2 c κs = search needs
 
 sub-j-2 : tie.Need-sub-j-2
-sub-j-2 c = omega (arith, c .place2 .ensures .1)
+sub-j-2 c = omega (arith, c .block-at2 .ensures .1)
 
 straight-blocks-requires : tie.Need-straight-blocks-requires
 straight-blocks-requires c κs = search needs
@@ -40,14 +40,14 @@ straight-blocks-requires c κs = search needs
 straight-block-requires-2 : tie.Need-straight-block-requires-2
 straight-block-requires-2 c κs =
     let p = c .before .before .before .before .before .before .before .before .before .pre in
-    let room = c .before .before .before .before .before .before .place .ensures .1 in
+    let room = c .before .before .before .before .before .before .block-at .ensures .1 in
     let same = c .before .before .before .straight-blocks .ensures .same in
     (omega arith, omega (arith, room, same, p .0), omega (arith, room, same, p .1))
 
 straight-block-requires-3 : tie.Need-straight-block-requires-3
 straight-block-requires-3 c κs =
     let p = c .before .before .before .before .before .before .before .before .before .before .before .pre in
-    let room = c .before .before .before .before .before .before .before .place2 .ensures .1 in
+    let room = c .before .before .before .before .before .before .before .block-at2 .ensures .1 in
     let same = c .before .before .before .before .before .straight-blocks .ensures .same in
     (omega arith, omega (arith, room, same, p .0), omega (arith, room, same, p .1))
 
@@ -58,12 +58,12 @@ put-block-requires-2 : tie.Need-put-block-requires-2
 put-block-requires-2 c κs = search needs
 
 add-put-block-2 : tie.Need-add-put-block-2
-add-put-block-2 c = let p = c .before .before .before .before .before .before .before .before .before .before .before .before .before .before .before .before .before .pre in omega (arith, p .0, c .before .before .before .before .before .before .before .before .before .before .before .before .before .place2 .ensures .1)
+add-put-block-2 c = let p = c .before .before .before .before .before .before .before .before .before .before .before .before .before .before .before .before .before .pre in omega (arith, p .0, c .before .before .before .before .before .before .before .before .before .before .before .before .before .block-at2 .ensures .1)
 
 put-block-requires-3 : tie.Need-put-block-requires-3
 put-block-requires-3 c κs =
     let p = c .before .before .before .before .before .before .before .before .before .before .before .before .before .before .before .before .before .pre in
-    (omega arith, omega (arith, p .0, c .before .before .before .before .before .before .before .before .before .before .before .before .before .place2 .ensures .1, c .before .before .before .before .before .before .before .before .before .before .before .straight-blocks .ensures .same, c .before .before .before .put-block2 .ensures .same))
+    (omega arith, omega (arith, p .0, c .before .before .before .before .before .before .before .before .before .before .before .before .before .block-at2 .ensures .1, c .before .before .before .before .before .before .before .before .before .before .before .straight-blocks .ensures .same, c .before .before .before .put-block2 .ensures .same))
 
 same-length-2 : tie.Need-same-length-2
 same-length-2 c = search needs
@@ -73,8 +73,8 @@ returns-2 c =
     let a = c .before .before .before .before .before .before .before .before .before .before .before .before .before .before .before .before .before .before .before .before .args in
     let p = c .before .before .before .before .before .before .before .before .before .before .before .before .before .before .before .before .before .before .before .before .pre in
     let long = c .before .before .before .before .before .before .before .before .before .before .before .before .before .before .before .before .before .before .if1 .left in
-    let start = c .before .before .before .before .before .before .before .before .before .before .before .before .before .before .before .before .before .place in
-    let end = c .before .before .before .before .before .before .before .before .before .before .before .before .before .before .before .before .place2 in
+    let start = c .before .before .before .before .before .before .before .before .before .before .before .before .before .before .before .before .before .block-at in
+    let end = c .before .before .before .before .before .before .before .before .before .before .before .before .before .before .before .before .block-at2 in
     let front = c .before .before .before .before .before .before .before .before .before .before .before .before .before .before .straight-blocks .ensures in
     let next = c .before .before .before .before .before .before .before .before .before .before .straight-block2 in
     let last = c .before .before .before .before .before .before .before .before .straight-block3 in
@@ -90,9 +90,9 @@ straight-row-spec =
     put-block-requires
     same-length
     returns
-    place-requires
+    block-at-requires
     sub-j
-    place-requires-2
+    block-at-requires-2
     sub-j-2
     straight-blocks-requires
     straight-block-requires-2

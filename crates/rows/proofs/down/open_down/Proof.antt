@@ -7,8 +7,8 @@ use borrow.Author.Tests.{not-true, not-false}
 use Rattle.frame.specs.Direction.{goesDown}
 use Rattle.frame.specs.Shape.{needed}
 use Rattle.frame.specs.Sweep.{Accepted}
-use Rattle.rows.proofs.Acceptance.{can-open-is}
-use Rattle.rows.proofs.Downs.{down-kept, down-goes, down-done}
+use Rattle.rows.proofs.Acceptance.{can-open-is, opens-all, opens-kept, opens-done}
+use Rattle.rows.proofs.Downs.{down-goes, down-opens}
 use borrow.Author.Needs.{needs}
 use Rattle.rows.proofs.down.open_down.Statement.{statement}
 use Rattle.rows.proofs.down.open_down.Tie as tie
@@ -17,18 +17,15 @@ can-open-requires : tie.Need-can-open-requires
 can-open-requires c κs = search needs
 
 returns : tie.Need-returns
-returns c =
-    let a = c .before .before .before .args in
-    down-kept (a .shape) (a .d) (a .length) (a .buf .now) (rw (sym (c .before .can-open .ensures) ∙ not-true _ (c .if1 .taken)))
+returns c = opens-kept (rw (sym (c .before .can-open .ensures) ∙ not-true _ (c .if1 .taken)))
 
 goes-down-requires : tie.Need-goes-down-requires
 goes-down-requires c κs = search needs
 
 returns-2 : tie.Need-returns-2
 returns-2 c =
-    let a = c .before .before .before .before .before .args in
     let all = sym (c .before .before .before .can-open .ensures) ∙ not-false _ (c .before .before .if1 .left) in
-    down-kept (a .shape) (a .d) (a .length) (a .buf .now) (rw (all, sym (c .before .goes-down .ensures) ∙ not-true _ (c .if2 .taken)))
+    opens-kept (rw (all, sym (c .before .goes-down .ensures) ∙ not-true _ (c .if2 .taken)))
 
 -- the rules accept what is given
 accepted : (c : tie.Else2)
@@ -53,9 +50,11 @@ same-length c = search needs
 
 returns-3 : tie.Need-returns-3
 returns-3 c =
+    let L = c .before .before .before .before .before .before .before .before .before .before .args .length in
     let ok = accepted (c .before .before .before .before .before) in
+    let steep = falls (c .before .before .before .before .before) in
     let opened = rw (c .before .before .before .sweep-down .ensures) at (c .before .before .open-lines .ensures) in
-    down-done (ok .0) (falls (c .before .before .before .before .before)) (c .before .before .before .before .before .before .before .before .before .before .args .length) _ _ (ok .1) (ok .2) opened
+    opens-done (opens-all (ok .0) steep L _ (ok .1) (ok .2)) (down-opens (ok .0) steep L (ok .1) opened)
 
 pub open-down-spec : {M : Type 1} → statement M
 open-down-spec =

@@ -1,32 +1,32 @@
--- No marks where nothing is over; else a mark for each column.
+-- No marks where there is no surplus; else a mark for each column.
 use mathlib.Core.Path.{refl}
 use mathlib.Core.Logic.{inl, inr}
 use native.Mathlib.Omega.{arith}
-use Rattle.rows.proofs.Bends.{small-product, over-fits, over-small, bends-none, bends-front}
+use Rattle.rows.proofs.Bends.{small-product, surplus-fits, surplus-small, bends-none, bends-front}
 use borrow.Author.Needs.{needs}
 use Rattle.rows.proofs.marks.mark_bends.Statement.{statement}
 use Rattle.rows.proofs.marks.mark_bends.Tie as tie
 
-mul-over : tie.Need-mul-over
-mul-over c =
+mul-surplus : tie.Need-mul-surplus
+mul-surplus c =
     let a = c .before .args in
     let p = c .before .pre in
     omega (arith, small-product (a .e) (a .rise) (p .4) (omega (arith, p)))
 
-mul-over-2 : tie.Need-mul-over-2
-mul-over-2 c =
+mul-surplus-2 : tie.Need-mul-surplus-2
+mul-surplus-2 c =
     let a = c .before .args in
     let p = c .before .pre in
-    omega (arith, over-fits (a .run) (a .rise) (a .e) (a .step) (p .1) (p .5), small-product (a .e) (a .rise) (p .4) (omega (arith, p)))
+    omega (arith, surplus-fits (a .run) (a .rise) (a .e) (a .step) (p .1) (p .5), small-product (a .e) (a .rise) (p .4) (omega (arith, p)))
 
-sub-over : tie.Need-sub-over
-sub-over c =
+sub-surplus : tie.Need-sub-surplus
+sub-surplus c =
     let a = c .before .args in
     let p = c .before .pre in
-    omega (arith, over-fits (a .run) (a .rise) (a .e) (a .step) (p .1) (p .5))
+    omega (arith, surplus-fits (a .run) (a .rise) (a .e) (a .step) (p .1) (p .5))
 
-mul-over-3 : tie.Need-mul-over-3
-mul-over-3 c =
+mul-surplus-3 : tie.Need-mul-surplus-3
+mul-surplus-3 c =
     let a = c .before .args in
     let p = c .before .pre in
     omega (arith, small-product (a .e) (a .rise) (p .4) (omega (arith, p)))
@@ -41,7 +41,7 @@ mark-columns-requires : tie.Need-mark-columns-requires
 mark-columns-requires c κs =
     let a = c .before .before .before .args in
     let p = c .before .before .before .pre in
-    (p .0, p .1, p .2, p .3, over-small (a .run) (a .rise) (a .e) (a .step) (p .1) (p .5))
+    (p .0, p .1, p .2, p .3, surplus-small (a .run) (a .rise) (a .e) (a .step) (p .1) (p .5))
 
 same-length : tie.Need-same-length
 same-length c = search needs
@@ -56,10 +56,10 @@ pub mark-bends-spec : {M : Type 1} → statement M
 mark-bends-spec =
     tie.close
     (tie.spec
-    mul-over
-    mul-over-2
-    sub-over
-    mul-over-3
+    mul-surplus
+    mul-surplus-2
+    sub-surplus
+    mul-surplus-3
     returns
     mark-columns-requires
     same-length

@@ -6,23 +6,23 @@ use native.Mathlib.Omega.{arith}
 use lib.Dec.{eqb, ltb}
 use lib.ListN.{length, length-set}
 use Rattle.frame.specs.Lines.{r}
-use Rattle.rows.specs.Slants.{Bends, Rest, Over}
+use Rattle.rows.specs.Slants.{Bends, Rest, Surplus}
 use Rattle.rows.proofs.Bends.{rest-start, bend-marked, bends-more}
 use borrow.Author.Needs.{needs}
 use Rattle.rows.proofs.marks.mark_columns.Statement.{statement}
 use Rattle.rows.proofs.marks.mark_columns.Tie as tie
 
 abbrev Inv-loop : tie.InvT-loop
-Inv-loop bends₀ n run rise over rest₀ x₀ bends rest x =
-    (x ≤ n) × (length bends ≡ length bends₀) × Rest run rise x rest × ((e step : ℕ) → Over run rise e step over → Bends run rise e step x bends)
+Inv-loop bends₀ n run rise surplus rest₀ x₀ bends rest x =
+    (x ≤ n) × (length bends ≡ length bends₀) × Rest run rise x rest × ((e step : ℕ) → Surplus run rise e step surplus → Bends run rise e step x bends)
 
 abbrev μ-loop : tie.MeasureT-loop
-μ-loop bends₀ n run rise over rest₀ x₀ bends rest x = n - x
+μ-loop bends₀ n run rise surplus rest₀ x₀ bends rest x = n - x
 
 loop-holds : tie.Need-loop-holds Inv-loop μ-loop
 loop-holds c =
     let a = c .before .args in
-    (omega arith, refl, rest-start (a .run) (a .rise) (c .before .pre .1), λ e step over y h. absurd (omega arith))
+    (omega arith, refl, rest-start (a .run) (a .rise) (c .before .pre .1), λ e step surplus y h. absurd (omega arith))
 
 mark-requires : tie.Need-mark-requires Inv-loop μ-loop
 mark-requires c κs = (c .before .before .before .pre .2, c .before .loop .inv .2 .below, c .before .before .before .pre .4)
@@ -48,10 +48,10 @@ loop-again c =
       omega arith,
       length-set (at .bends) (at .x) (made .result) ∙ at .inv .1,
       c .next-rest .ensures (at .x) (at .inv .2),
-      λ e step over.
-          bends-more (a .run) (a .rise) e step (at .x) (made .result) (at .bends) (at .inv .3 e step over) (omega (arith, at .inv .1))
-          (bend-marked (a .run) (a .rise) e step (p .1) (over .0) (at .inv .2)
-          ∙ ap (λ (o : ℕ). r (a .run) (a .rise) (at .x) + cond (eqb (cond (ltb (at .rest + o) (2 * a .run)) 0 1) 0) step (step + 1)) (sym (over .1))
+      λ e step surplus.
+          bends-more (a .run) (a .rise) e step (at .x) (made .result) (at .bends) (at .inv .3 e step surplus) (omega (arith, at .inv .1))
+          (bend-marked (a .run) (a .rise) e step (p .1) (surplus .0) (at .inv .2)
+          ∙ ap (λ (o : ℕ). r (a .run) (a .rise) (at .x) + cond (eqb (cond (ltb (at .rest + o) (2 * a .run)) 0 1) 0) step (step + 1)) (sym (surplus .1))
           ∙ ap (λ (m : ℕ). r (a .run) (a .rise) (at .x) + cond (eqb m 0) step (step + 1)) (sym (made .ensures))),
     )
 
@@ -59,7 +59,7 @@ same-length : tie.Need-same-length Inv-loop μ-loop
 same-length c = search needs
 
 returns : tie.Need-returns Inv-loop μ-loop
-returns c = λ e step over y h. c .before .loop .inv .3 e step over y (omega arith)
+returns c = λ e step surplus y h. c .before .loop .inv .3 e step surplus y (omega arith)
 
 pub mark-columns-spec : {M : Type 1} → statement M
 mark-columns-spec =

@@ -1,5 +1,4 @@
 -- No window fits, or the erosion and then the dilation of that.
-use Prim.Native.Nat.{zero-le}
 use native.Mathlib.Omega.{arith}
 use Rattle.frame.specs.Sweep.{shift}
 use Rattle.rows.specs.Rows.{spot}
@@ -11,28 +10,32 @@ use Rattle.rows.proofs.shallow.open_along.Statement.{statement}
 use Rattle.rows.proofs.shallow.open_along.Tie as tie
 
 clear-rows-requires : tie.Need-clear-rows-requires
-clear-rows-requires c κs = let slanted = c .before .before .before .before .before .pre .0 in (slanted .apart, zero-le, slanted .room)
+clear-rows-requires c κs = search needs
 
 same-length : tie.Need-same-length
 same-length c = search needs
 
 returns : tie.Need-returns
 returns c =
-    let args = c .before .before .before .before .before .before .before .before .args in
+    let args = c .before .before .before .before .before .before .before .args in
     let s = args .s in
     opened-none (shift s) (spot s) (s .minors) (s .majors) _ (args .length) (c .before .before .before .before .if1 .taken)
-    (cleared-lines s (c .before .before .before .before .before .before .before .before .pre .0 .next) (c .before .before .clear-rows .ensures))
+    (cleared-lines s (c .before .before .before .before .before .before .before .pre .0 .next) (c .before .before .clear-rows .ensures))
+
+slice-aggregate-grow-along : tie.Need-slice-aggregate-grow-along
+slice-aggregate-grow-along c = search needs
 
 grow-along-requires : tie.Need-grow-along-requires
-grow-along-requires c κs =
-    let pre = c .before .before .before .before .before .before .pre in
-    (pre .0, pre .1, omega arith, pre .2, λ i k from in′. absurd (omega arith))
+grow-along-requires c κs = search needs
+
+slice-aggregate-grow-along-2 : tie.Need-slice-aggregate-grow-along-2
+slice-aggregate-grow-along-2 c = search needs
 
 grow-along-requires-2 : tie.Need-grow-along-requires-2
 grow-along-requires-2 c κs =
-    let pre = c .before .before .before .before .before .before .before .before .before .before .before .before .before .pre in
+    let pre = c .before .before .before .before .before .before .before .before .before .before .before .pre in
     let slanted = pre .0 in
-    let eroded = c .before .before .before .before .before .before .grow-along in (
+    let eroded = c .before .before .before .before .before .grow-along in (
       record {
         sane = slanted .sane;
         next = slanted .next;
@@ -41,24 +44,21 @@ grow-along-requires-2 c κs =
       },
       pre .1,
       omega arith,
-      omega (arith, pre .2, eroded .kept .1),
+      omega (arith, slanted .sane .majors),
       λ i k from. eroded .ensures .1 i k (omega arith),
     )
 
 same-length-2 : tie.Need-same-length-2
 same-length-2 c = search needs
 
-same-length-3 : tie.Need-same-length-3
-same-length-3 c = search needs
-
 returns-2 : tie.Need-returns-2
 returns-2 c =
-    let args = c .before .before .before .before .before .before .before .before .before .before .before .before .before .before .before .before .before .before .args in
-    let s = args .s in
-    let buf = args .buf .now in
-    let eroded = c .before .before .before .before .before .before .before .before .before .before .before .grow-along .ensures .0 .lines buf buf (grown-start s buf (args .length)) in
-    grown-opened s buf (args .length) (c .before .before .before .before .before .before .before .before .before .before .before .before .before .before .before .before .before .before .pre .1)
-    (c .before .before .before .before .grow-along2 .ensures .0 .lines buf buf (grown-turn s buf (args .length) eroded))
+    let start = c .before .before .before .before .before .before .before .before .before .before .before .before .before .before .before in
+    let s = start .args .s in
+    let L = start .args .length in
+    let buf = start .args .buf .now in
+    let eroded = c .before .before .before .before .before .before .before .before .before .grow-along .ensures .0 .lines buf buf (grown-start s buf L) in
+    grown-opened s buf L (start .pre .1) (c .before .before .before .grow-along2 .ensures .0 .lines buf buf (grown-turn s buf L eroded))
 
 pub open-along-spec : {M : Type 1} → statement M
 open-along-spec =
@@ -67,8 +67,9 @@ open-along-spec =
     clear-rows-requires
     same-length
     returns
+    slice-aggregate-grow-along
     grow-along-requires
+    slice-aggregate-grow-along-2
     grow-along-requires-2
     same-length-2
-    same-length-3
     returns-2)

@@ -16,12 +16,12 @@ mul-result c =
     let s = c .before .before .args .s in
     let sane = c .before .before .pre .0 in
     let row = c .before .row-of in
-    let fits : row .result * s .minor ≤ longest * widest =
-    mul-le-mul {n₁ = row .result} {m₁ = s .minor} {n₂ = longest} {m₂ = widest} (omega (arith, row .ensures .1, sane .minors)) (sane .minor) in
+    let fits : row .result * s .«minor_step» ≤ longest * widest =
+    mul-le-mul {n₁ = row .result} {m₁ = s .«minor_step»} {n₂ = longest} {m₂ = widest} (omega (arith, row .ensures .1, sane .minors)) (sane .«minor_step») in
     omega arith
 
 returns : tie.Need-returns
-returns c = ap (λ (i : ℕ). i * c .before .before .args .s .minor) (c .before .row-of .ensures .0)
+returns c = ap (λ (i : ℕ). i * c .before .before .args .s .«minor_step») (c .before .row-of .ensures .0)
 
 pub start-spec : {M : Type 1} → statement M
 start-spec = tie.close (tie.spec row-of-requires mul-result returns)

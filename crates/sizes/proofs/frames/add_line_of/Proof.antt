@@ -43,7 +43,7 @@ add-line-requires c κs =
     let a = c .before .before .before .before .before .before .before .before .args in
     let pre = c .before .before .before .before .before .before .before .before .pre in
     let frame = pre .0 .ok .frame in
-    let wide = ap length (c .before .before .row .ensures) ∙ row-length (a .src .now) (a .shape) (a .u) frame (pre .0 .source) (there (c .before .before .before)) in
+    let wide = ap length (c .before .before .row .ensures .contents) ∙ row-length (a .src .now) (a .shape) (a .u) frame (pre .0 .source) (there (c .before .before .before)) in
     (omega (arith, wide, framed (a .shape) frame), omega (arith, wide, pre .2), pre .3, pre .4)
 
 same-length : tie.Need-same-length
@@ -54,7 +54,7 @@ same-length-2 c = search needs
 
 returns : tie.Need-returns
 returns c =
-    let row = c .before .before .before .before .before .before .before .row .ensures in
+    let row = c .before .before .before .before .before .before .before .row .ensures .contents in
     let line = line-is (c .before .before .before .before .before .before .before .before) in
     rw (row ∙ sym line) at (c .before .before .before .before .add-line .ensures)
 
