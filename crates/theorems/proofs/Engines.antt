@@ -155,11 +155,11 @@ opens-once sh d L way {b} {b₁} {b₂} p q = go (canOpen sh d L (length b) && w
     go true e = either (shallow d) refl e
     go false e = p .none e ∙ sym (q .none e)
 
-pub open-down-once : {sh : Shape} {d : Direction} {L : ℕ} {b b₁ b₂ : List ℕ} → OpensDown sh d L b b₁ → OpensDown sh d L b b₂ → b₁ ≡ b₂
-open-down-once {sh} {d} {L} = opens-once sh d L (goesDown d)
+pub open-down-once : (sh : Shape) (d : Direction) (L : ℕ) {b b₁ b₂ : List ℕ} → OpensDown sh d L b b₁ → OpensDown sh d L b b₂ → b₁ ≡ b₂
+open-down-once sh d L = opens-once sh d L (goesDown d)
 
-pub open-shallow-once : {sh : Shape} {d : Direction} {L : ℕ} {b b₁ b₂ : List ℕ} → OpensShallow sh d L b b₁ → OpensShallow sh d L b b₂ → b₁ ≡ b₂
-open-shallow-once {sh} {d} {L} = opens-once sh d L (shallow d)
+pub open-shallow-once : (sh : Shape) (d : Direction) (L : ℕ) {b b₁ b₂ : List ℕ} → OpensShallow sh d L b b₁ → OpensShallow sh d L b b₂ → b₁ ≡ b₂
+open-shallow-once sh d L = opens-once sh d L (shallow d)
 
 -- ---- a line put back
 
