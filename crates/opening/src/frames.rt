@@ -34,9 +34,8 @@ pub(crate) fn opened_into(
         return;
     }
     open_rows(src, shape, 1, stride, dst);
-    let width = shape.width;
     let frame = Shape {
-        width,
+        width: shape.width,
         height: shape.height,
         stride,
     };
