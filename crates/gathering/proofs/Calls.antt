@@ -26,7 +26,7 @@ use Rattle.frame.proofs.Pixels.{empty-none}
 use Rattle.frame.proofs.Tracks.{track-line}
 use Rattle.gathering.specs.Gathering.{gatherRules}
 use Rattle.gathering.specs.Scattering.{scatterRules}
-use Rattle.gathering.specs.Steps.{lineRules}
+use Rattle.gathering.specs.Steps.{frameLineRules}
 
 -- ---- what they come to
 
@@ -45,21 +45,21 @@ module _ (sh : Shape) (d : Direction) (k : ℤ) (size from room to : ℕ) where
 
   -- n is the track's count; from′ and to′ are what is needed of a line that there is
   pub line-answer : (n from′ to′ : ℕ) → n ≡ trackOf sh d k .count → (Accepted sh d → n ≡ length (pixels sh d k) → (from′ ≡ from) × (to′ ≡ to))
-      → answer (lineRules (isFrame sh) n size from′ room to′) n ≡ says
+      → answer (frameLineRules (isFrame sh) n size from′ room to′) n ≡ says
   line-answer n from′ to′ count needs = go (isFrame sh) refl (isDirection d) refl (noLine sh d k) refl
     where
-      some : (ok : Accepted sh d) → noLine sh d k ≡ false → answer (lineRules (isFrame sh) n size from′ room to′) n ≡ says
+      some : (ok : Accepted sh d) → noLine sh d k ≡ false → answer (frameLineRules (isFrame sh) n size from′ room to′) n ≡ says
       some ok e =
           let counted = count ∙ track-line sh d ok k e .counted in
           let need = needs ok counted in
           let more = ne-eqb n 0 (λ z. true≢false (sym (empty-none (pixels sh d k) (sym counted ∙ z)) ∙ e)) in
           rw (ok .frame, ok .direction, e, more, need .0, need .1, counted)
 
-      nothing : isFrame sh ≡ true → n ≡ 0 → answer (lineRules (isFrame sh) n size from′ room to′) n ≡ answer (rule (not (isFrame sh)) 1 0 ∷ rule true 2 0 ∷ []) 0
+      nothing : isFrame sh ≡ true → n ≡ 0 → answer (frameLineRules (isFrame sh) n size from′ room to′) n ≡ answer (rule (not (isFrame sh)) 1 0 ∷ rule true 2 0 ∷ []) 0
       nothing f z = rw (f, z)
 
       go : (f : Bool) → isFrame sh ≡ f → (v : Bool) → isDirection d ≡ v → (t : Bool) → noLine sh d k ≡ t
-          → answer (lineRules (isFrame sh) n size from′ room to′) n ≡ says
+          → answer (frameLineRules (isFrame sh) n size from′ room to′) n ≡ says
       go false f v x t e = rw f
       go true f false x t e = nothing f (count ∙ rw (f, x)) ∙ rw (f, x)
       go true f true x true e = nothing f (count ∙ rw (f, x, e)) ∙ rw (f, x, e)

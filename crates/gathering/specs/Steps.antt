@@ -1,5 +1,5 @@
 -- What private contracts need.
---   lineRules framed n size from room to    the rules of a call on a line of n pixels; size and room are lent, from and to needed
+--   frameLineRules framed n size from room to    the rules of a call on a line of a frame, with n pixels; size and room are lent, from and to needed
 --   combining raising old new    the brighter of the two, or the new one
 --   PutsBack op                  values put back to a line, op of what stood there and the value
 --   Alike s b                    two sweeps with the same lines, whose pixels stand elsewhere
@@ -19,8 +19,8 @@ use Rattle.frame.specs.Lines.{pixels, place}
 use Rattle.frame.specs.Sweep.{shift}
 use Rattle.gathering.specs.Scattering.{put, scatterRules}
 
-abbrev pub lineRules : Bool → ℕ → ℕ → ℕ → ℕ → ℕ → List Rule
-lineRules framed n size from room to =
+abbrev pub frameLineRules : Bool → ℕ → ℕ → ℕ → ℕ → ℕ → List Rule
+frameLineRules framed n size from room to =
     rule (not framed) 1 0 ∷ rule (eqb n 0) 2 0 ∷ rule (ltb size from) 5 from ∷ rule (ltb room to) 6 to ∷ []
 
 abbrev pub combining : Bool → ℕ → ℕ → ℕ

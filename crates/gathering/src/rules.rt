@@ -2,7 +2,7 @@
 use answer::Answer;
 ghost use mathlib.Core.Path.{_≡_};
 ghost use Rattle.answer.specs.Rules.{answer};
-ghost use Rattle.gathering.specs.Steps.{lineRules};
+ghost use Rattle.gathering.specs.Steps.{frameLineRules};
 
 // Rules 1, 2, 5 and 6 for a line of `count` pixels, none where the frame has no such line: a source of `size` bytes, of which `from` are read, and a
 // destination of `room` bytes, of which `to` may be written.
@@ -14,7 +14,7 @@ pub(crate) fn refusal(
     room: usize,
     to: usize,
 ) -> Answer
-    ensures { λ r. ⌜ r ≡ answer (lineRules framed count size from room to) count ⌝ }
+    ensures { λ r. ⌜ r ≡ answer (frameLineRules framed count size from room to) count ⌝ }
 {
     Answer::done(count as u64)
         .unless(1, !framed)

@@ -1,10 +1,10 @@
 -- From windows of w pixels to windows of w + s, and from erosion and dilation to the opening.
 --   darkest-one, darkest-cover      a window of one pixel; a window that two windows cover
---   erodes-one, erodes-more         the passes of an erosion
+--   eroded-front-one, eroded-front-more      the passes of an erosion
 --   dilated-at-longer               a value of a dilation by longer windows
 --   dilated-at-join                 the same by two windows, one behind the other
 --   dilated-at-all, dilated-at-none windows that hold all values up to there, and windows that hold none
---   dilates-one, dilates-more       the passes of a dilation
+--   dilated-front-one, dilated-front-more    the passes of a dilation
 --   opened-by                       an opening by its values
 --   eroded-passes, dilated-passes, opened-passes    what the passes of each leave
 --   opened-at-eroded                a value of the opening is that of the dilation of the erosion
@@ -21,7 +21,7 @@ use Rattle.lists.proofs.Cases.{less-or-not}
 use Rattle.lists.proofs.Tables.{table-by}
 use Rattle.lists.proofs.Stores.{filled-copy}
 use Rattle.line.specs.Windows.{darkest, eroded, erodedCount, dilated, dilatedCount, dilatedAt, opened, openedAt}
-use Rattle.line.specs.Passes.{narrowed, widened, Erodes, Dilates}
+use Rattle.line.specs.Passes.{narrowed, widened, ErodedFront, DilatedFront}
 use Rattle.line.proofs.Windows.{darkest-le, le-darkest, le-dilated-at, dilated-at-le, le-opened-at, opened-at-le}
 
 -- ---- erosion
@@ -47,12 +47,12 @@ darkest-cover f i u j v w pu pv lo meet hi e fit =
     (λ q. le-trans (min-le-right (darkest f i u) (darkest f j v)) (darkest-le f j v k (omega arith) (omega arith) (omega arith)))
     (less-or-not k (i + u))))
 
-pub erodes-one : (f : List ℕ) → Erodes f 1 f
-erodes-one f = record { at = λ i h. sym (darkest-one f i h) }
+pub eroded-front-one : (f : List ℕ) → ErodedFront f 1 f
+eroded-front-one f = record { at = λ i h. sym (darkest-one f i h) }
 
-pub erodes-more : {f a d b : List ℕ} {w s m : ℕ} → Erodes f w a → Filled d b 0 m (narrowed a s)
-    → 0 < w → s ≤ w → length f + 1 ≤ m + (w + s) → Erodes f (w + s) b
-erodes-more {f} {a} {d} {b} {w} {s} {m} e p some small room =
+pub eroded-front-more : {f a d b : List ℕ} {w s m : ℕ} → ErodedFront f w a → Filled d b 0 m (narrowed a s)
+    → 0 < w → s ≤ w → length f + 1 ≤ m + (w + s) → ErodedFront f (w + s) b
+eroded-front-more {f} {a} {d} {b} {w} {s} {m} e p some small room =
     record {
       at = λ i h.
           p .within i zero-le (omega arith)
@@ -61,7 +61,7 @@ erodes-more {f} {a} {d} {b} {w} {s} {m} e p some small room =
     }
 
 -- a copy, its erosion, and the values of that
-pub eroded-passes : {d a e x y : List ℕ} (f : List ℕ) {L m n : ℕ} → Filled d a 0 m (λ (k : ℕ). getD f k 0) → Erodes a L e → Filled x y 0 n (λ (k : ℕ). getD e k 0)
+pub eroded-passes : {d a e x y : List ℕ} (f : List ℕ) {L m n : ℕ} → Filled d a 0 m (λ (k : ℕ). getD f k 0) → ErodedFront a L e → Filled x y 0 n (λ (k : ℕ). getD e k 0)
     → m ≡ length f → length d ≡ length f → n ≡ length x → length x ≡ erodedCount (length f) L → y ≡ eroded f L
 unfolding eroded
 eroded-passes {d} {a} {e} {x} {y} f {L} {m} {n} copy er back mf df nx count =
@@ -121,12 +121,12 @@ dilated-at-all e v w x all₁ all₂ =
 pub dilated-at-none : (e : List ℕ) (x : ℕ) → dilatedAt e 0 x ≡ 0
 dilated-at-none e x = le-antisymm (dilated-at-le e 0 x 0 (λ i l lo hi. absurd (omega arith))) zero-le
 
-pub dilates-one : (e : List ℕ) → Dilates e 1 e
-dilates-one e = record { at = λ x h. sym (dilated-at-one e x h) }
+pub dilated-front-one : (e : List ℕ) → DilatedFront e 1 e
+dilated-front-one e = record { at = λ x h. sym (dilated-at-one e x h) }
 
-pub dilates-more : {e a b : List ℕ} {w s hi : ℕ} → Dilates e w a → Filled a b s hi (widened a s) → s ≤ w → length e ≤ hi
-    → Dilates e (w + s) b
-dilates-more {e} {a} {b} {w} {s} {hi} g p small room =
+pub dilated-front-more : {e a b : List ℕ} {w s hi : ℕ} → DilatedFront e w a → Filled a b s hi (widened a s) → s ≤ w → length e ≤ hi
+    → DilatedFront e (w + s) b
+dilated-front-more {e} {a} {b} {w} {s} {hi} g p small room =
     record {
       at = λ x h.
           ⊎-elim
@@ -149,7 +149,7 @@ dilated-at-padded e z L x room value rest =
     (dilated-at-le e L x (dilatedAt z L x) (λ i l lo hi. rw (← value i l) (le-dilated-at z L x i (omega arith) lo hi)))
 
 -- a copy, zeros behind it, and the dilation of that
-pub dilated-passes : {d a z g : List ℕ} (e : List ℕ) {L m hi : ℕ} → Filled d a 0 m (λ (k : ℕ). getD e k 0) → Filled a z m hi (λ (k : ℕ). 0) → Dilates z L g
+pub dilated-passes : {d a z g : List ℕ} (e : List ℕ) {L m hi : ℕ} → Filled d a 0 m (λ (k : ℕ). getD e k 0) → Filled a z m hi (λ (k : ℕ). 0) → DilatedFront z L g
     → m ≡ length e → hi ≡ length a → 0 < L → length a ≡ dilatedCount (length e) L → length g ≡ length a → g ≡ dilated e L
 unfolding dilated
 dilated-passes {d} {a} {z} {g} e {L} {m} {hi} copy clear di me ha some na ng =
@@ -194,7 +194,7 @@ opened-short {d} {a} f L n short z =
     opened-by f a L (z .same ∙ n) (λ x h. z .within x zero-le (omega arith) ∙ sym (opened-at-short f L x short))
 
 -- the erosion, zeros past its values, and the dilation of that
-pub opened-passes : {e z g : List ℕ} (f : List ℕ) (L : ℕ) → Erodes f L e → Filled e z (length f - L + 1) (length e) (λ (k : ℕ). 0) → Dilates z L g
+pub opened-passes : {e z g : List ℕ} (f : List ℕ) (L : ℕ) → ErodedFront f L e → Filled e z (length f - L + 1) (length e) (λ (k : ℕ). 0) → DilatedFront z L g
     → 0 < L → L ≤ length f → length e ≡ length f → length g ≡ length f → g ≡ opened f L
 opened-passes {e} {z} {g} f L er clear di some fit ne ng =
     let nz : length z ≡ length e = clear .same in

@@ -3,7 +3,7 @@
 --   widened b d k         number k of b, or the one d before it: the greater
 --   erodedTo f w i        the darkest pixel of the window of w from i on; 0 where it leaves the line
 --   reopened f L w x      the greatest of these, for windows of L, at the w places up to x
---   Erodes, Dilates       a list begins with the values of an erosion, or of a dilation
+--   ErodedFront, DilatedFront    a list begins with the values of an erosion, or of a dilation
 -- Laws: line/proofs/Passes, Parts, Rims.
 use mathlib.Core.Path.{_≡_}
 use mathlib.Core.Bool.{cond}
@@ -27,9 +27,9 @@ unfoldable pub reopened : List ℕ → ℕ → ℕ → ℕ → ℕ
 reopened f L w x = dilatedAt (table (erodedTo f L) (length f)) w x
 
 -- a begins with the values of the erosion of f by windows of w pixels
-pub record Erodes (f : List ℕ) (w : ℕ) (a : List ℕ) : Type 0 where
+pub record ErodedFront (f : List ℕ) (w : ℕ) (a : List ℕ) : Type 0 where
   pub at : (i : ℕ) → i + w ≤ length f → getD a i 0 ≡ darkest f i w
 
 -- a begins with the first values of the dilation of e by windows of w values, as many as e has
-pub record Dilates (e : List ℕ) (w : ℕ) (a : List ℕ) : Type 0 where
+pub record DilatedFront (e : List ℕ) (w : ℕ) (a : List ℕ) : Type 0 where
   pub at : (x : ℕ) → x < length e → getD a x 0 ≡ dilatedAt e w x

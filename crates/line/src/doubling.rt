@@ -5,7 +5,7 @@ ghost use mathlib.Core.Path.{_≡_};
 ghost use Prim.Native.Nat.{_-_, _≤_, min};
 ghost use lib.ListN;
 ghost use Rattle.line.specs.Opening.{openedInPlace};
-ghost use Rattle.line.specs.Passes.{Erodes, Dilates};
+ghost use Rattle.line.specs.Passes.{ErodedFront, DilatedFront};
 
 // How much longer windows of w pixels may get in one pass on their way to `length`: to twice their length, and at most to `length`.
 pub fn growth(w: usize, length: usize) -> usize
@@ -21,7 +21,7 @@ pub fn growth(w: usize, length: usize) -> usize
 // The line begins with the values of its erosion; what follows them is left over from the passes.
 pub(crate) fn erode_in_place(line: &mut [Pixel], length: usize)
     requires { ⌜ (1 ≤ length) × (length ≤ lib.ListN.length (now line)) ⌝ }
-    ensures { λ _. ⌜ Erodes (now (line .entry)) length (now (line .exit)) ⌝ }
+    ensures { λ _. ⌜ ErodedFront (now (line .entry)) length (now (line .exit)) ⌝ }
 {
     let n = line.len();
     let mut w = 1;
@@ -35,7 +35,7 @@ pub(crate) fn erode_in_place(line: &mut [Pixel], length: usize)
 // The line becomes the first values of its dilation, as many as it has pixels.
 pub(crate) fn dilate_in_place(line: &mut [Pixel], length: usize)
     requires { ⌜ (1 ≤ length) × (length ≤ lib.ListN.length (now line)) ⌝ }
-    ensures { λ _. ⌜ Dilates (now (line .entry)) length (now (line .exit)) ⌝ }
+    ensures { λ _. ⌜ DilatedFront (now (line .entry)) length (now (line .exit)) ⌝ }
 {
     let n = line.len();
     let mut w = 1;

@@ -25,7 +25,7 @@ use Rattle.frame.specs.Shape.{isFrame, needed, scratchFor}
 use Rattle.frame.proofs.Shapes.{Framed, framed, needed-small}
 use Rattle.frame.proofs.Directions.{numbered-accepted}
 use Rattle.opening.specs.Buffers.{bufferRules}
-use Rattle.opening.specs.Frames.{openRules}
+use Rattle.opening.specs.Frames.{openFrameRules}
 use Rattle.opening.specs.Sixteen.{highestRules}
 use Rattle.opening.specs.Directions.{directionRules}
 use Rattle.opening.specs.Steps.{lentRules, Ready}
@@ -56,7 +56,7 @@ module _ (sh : Shape) (L size room spare : ℕ) where
       )
 
   -- with no frame in scratch, and with one
-  pub lent-open : (d : Direction) → answer (lentRules sh d L size room spare 0) 0 ≡ answer (openRules sh d L size room spare) 0
+  pub lent-open : (d : Direction) → answer (lentRules sh d L size room spare 0) 0 ≡ answer (openFrameRules sh d L size room spare) 0
   lent-open d =
       let e : scratchFor sh + 0 * (sh .width * sh .height) ≡ scratchFor sh = omega arith in
       ap (λ (n : ℕ). answer (rule (not (isFrame sh)) 1 0 ∷ rule (not (isDirection d)) 2 0 ∷ bufferRules sh L size room spare n) 0) e
@@ -66,7 +66,7 @@ module _ (sh : Shape) (L size room spare : ℕ) where
       let e : scratchFor sh + 1 * (sh .width * sh .height) ≡ scratchFor sh + sh .width * sh .height = omega arith in
       ap (λ (n : ℕ). answer (rule (not (isFrame sh)) 1 0 ∷ rule (not (isDirection along)) 2 0 ∷ bufferRules sh L size room spare n) 0) e
 
-  pub open-ready : (d : Direction) {a : Answer} → a ≡ answer (openRules sh d L size room spare) 0 → a .number ≡ 0 → Ready sh d L size room spare
+  pub open-ready : (d : Direction) {a : Answer} → a ≡ answer (openFrameRules sh d L size room spare) 0 → a .number ≡ 0 → Ready sh d L size room spare
   open-ready d says z = lent-ready d 0 (says ∙ sym (lent-open d)) z .0
 
   pub highest-ready : {a : Answer} → a ≡ answer (highestRules sh L size room spare) 0 → a .number ≡ 0 → Ready sh along L size room spare
@@ -93,10 +93,10 @@ small-cond : (m : ℕ) (t : Bool) (x y : Answer) → x .figure < m → y .figure
 small-cond m true x y h l = h
 small-cond m false x y h l = l
 
-pub open-figure : (sh : Shape) (L size room spare : ℕ) (d : Direction) → answer (openRules sh d L size room spare) 0 .figure < 2 ^ 32
+pub open-figure : (sh : Shape) (L size room spare : ℕ) (d : Direction) → answer (openFrameRules sh d L size room spare) 0 .figure < 2 ^ 32
 open-figure sh L size room spare d = go (isFrame sh) refl
   where
-    go : (t : Bool) → isFrame sh ≡ t → answer (openRules sh d L size room spare) 0 .figure < 2 ^ 32
+    go : (t : Bool) → isFrame sh ≡ t → answer (openFrameRules sh d L size room spare) 0 .figure < 2 ^ 32
     go false e = rw e (omega arith)
     go true e =
         let f = framed sh e in

@@ -38,7 +38,7 @@ use Rattle.frame.proofs.Paintings.{painted-as, painted-again}
 use Rattle.gathering.specs.Rows.{rowOf}
 use Rattle.gathering.proofs.LentRows.{row-length, row-pixel}
 use Rattle.rows.specs.Rows as rows
-use Rattle.rows.specs.Rows.{spot as byteOf, lane, OpensLines, canOpen, OpensIf}
+use Rattle.rows.specs.Rows.{byteOf, lane, OpensLines, canOpen, OpensIf}
 use Rattle.rows.proofs.Acceptance.{opens-all}
 use Rattle.opening.specs.Pixels as opening
 use Rattle.opening.specs.Pixels.{openedPixel}

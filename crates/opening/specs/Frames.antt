@@ -15,15 +15,15 @@ use Rattle.opening.specs.Pixels.{openedPixel}
 use Rattle.opening.specs.Buffers.{bufferRules}
 
 -- rules 1, 2, 3, 5, 6 and 7
-abbrev pub openRules : Shape → Direction → ℕ → ℕ → ℕ → ℕ → List Rule
-openRules sh d L size room spare =
+abbrev pub openFrameRules : Shape → Direction → ℕ → ℕ → ℕ → ℕ → List Rule
+openFrameRules sh d L size room spare =
     rule (not (isFrame sh)) 1 0
     ∷ rule (not (isDirection d)) 2 0
     ∷ bufferRules sh L size room spare (scratchFor sh)
 
 -- f is the frame, g the destination and t the scratch. What scratch holds after a done call is left open, its length apart.
 pub record OpensFrame (f : List ℕ) (sh : Shape) (d : Direction) (L : ℕ) (g g′ t t′ : List ℕ) (a : Answer) : Type 0 where
-  pub answers : a ≡ answer (openRules sh d L (length f) (length g) (length t)) 0
+  pub answers : a ≡ answer (openFrameRules sh d L (length f) (length g) (length t)) 0
   pub done : a .number ≡ 0 → Painted sh (openedPixel f sh d L) g g′
   pub refused : (a .number ≡ 0 → ⊥) → (g′ ≡ g) × (t′ ≡ t)
   pub scratch-length : length t′ ≡ length t

@@ -1,6 +1,6 @@
--- Rows of a frame, the lines that cross them, and what a pass leaves. Pixel (i, k) has the major coordinate i and the minor coordinate k. It stands at byte
--- A i k, and its line has the index k + h i; the definitions serve any such A and h.
---   spot s i k             the byte of a pixel in a sweep
+-- Rows of a frame, the lines that cross them, and what a pass leaves. Pixel (i, k) has the major coordinate i, which ascends along a line, and the minor
+-- coordinate k. It stands at byte A i k, and its line has the index k + h i; the definitions serve any such A and h.
+--   byteOf s i k           the byte of pixel (i, k) in the frame of a sweep
 --   laneAt h A N g u i     line u's pixel at the major coordinate i of the frame g, which has N minor coordinates; 0 where it has none
 --   lane h A N M g u       these, at each of the M major coordinates
 --   PixelsAre A M N F      every pixel is F i k; every other byte is as it was
@@ -27,8 +27,8 @@ use Rattle.frame.specs.Direction.{isDirection, shallow, goesDown}
 use Rattle.frame.specs.Shape.{isFrame, needed}
 use Rattle.frame.specs.Sweep.{shift, sweepOf}
 
-abbrev pub spot : Sweep → ℕ → ℕ → ℕ
-spot s i k = i * s .«major_step» + k * s .«minor_step»
+abbrev pub byteOf : Sweep → ℕ → ℕ → ℕ
+byteOf s i k = i * s .«major_step» + k * s .«minor_step»
 
 unfoldable pub laneAt : (ℕ → ℕ) → (ℕ → ℕ → ℕ) → ℕ → List ℕ → ℕ → ℕ → ℕ
 laneAt h A N g u i = cond (leb (h i) u && ltb u (h i + N)) (getD g (A i (u - h i)) 0) 0
@@ -54,7 +54,7 @@ pub record RowsAre (st : ℕ → ℕ) (N lo hi : ℕ) (F : ℕ → ℕ → ℕ) 
 
 abbrev pub OpensLines : Sweep → ℕ → List ℕ → List ℕ → Type 0
 OpensLines s L before after =
-    PixelsAre (spot s) (s .majors) (s .minors) (λ (i k : ℕ). getD (opened (lane (shift s) (spot s) (s .minors) (s .majors) before (k + shift s i)) L) i 0)
+    PixelsAre (byteOf s) (s .majors) (s .minors) (λ (i k : ℕ). getD (opened (lane (shift s) (byteOf s) (s .minors) (s .majors) before (k + shift s i)) L) i 0)
     before after
 
 -- ---- what the two openings promise, of the frame of shape sh that stands in a buffer

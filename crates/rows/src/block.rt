@@ -5,7 +5,7 @@ use crate::levels::meet_row_by;
 use crate::levels::start_levels;
 use crate::levels::take_row;
 use crate::order::meet_next;
-use crate::order::row_of;
+use crate::order::row_at;
 use frame::Sweep;
 ghost use mathlib.Core.Path.{_≡_};
 ghost use Prim.Native.Nat.{ℕ, _+_, _-_, _≤_, _<_, min};
@@ -42,13 +42,13 @@ fn run_on(
 {
     let end = from + length;
     let mut t = from + 1;
-    start_levels(buf, s, row_of(s.majors, end, darker), levels);
+    start_levels(buf, s, row_at(s.majors, end, darker), levels);
     while t + 1 < end {
-        meet_row_by(levels, s, row_of(s.majors, t, darker), buf, darker);
+        meet_row_by(levels, s, row_at(s.majors, t, darker), buf, darker);
         t += 1;
         take_row(buf, s, t + length - 1, levels, darker);
     }
-    meet_row_by(levels, s, row_of(s.majors, t, darker), buf, darker);
+    meet_row_by(levels, s, row_at(s.majors, t, darker), buf, darker);
 }
 
 fn sooner(a: usize, b: usize) -> usize

@@ -1,7 +1,7 @@
 // A pixel for each line, where lines go abreast down the rows: the level that the line has come to on its way from row to row. Levels stand in the order of
 // the lines, so a row's are side by side, and no line's level moves as the line moves aside.
 use crate::Pixel;
-use crate::order::row_of;
+use crate::order::row_at;
 use frame::Sweep;
 use frame::shift_at;
 ghost use Prim.Native.Nat.{ℕ, _+_, _-_, _*_, _≤_, _<_};
@@ -40,7 +40,7 @@ pub(crate) fn take_row(buf: &[Pixel], s: Sweep, t: usize, levels: &mut [Pixel], 
     if s.majors <= t {
         return;
     }
-    meet_levels(buf, s, row_of(s.majors, t, darker), levels, darker);
+    meet_levels(buf, s, row_at(s.majors, t, darker), levels, darker);
 }
 
 // Each pixel of row i meets its line's level.

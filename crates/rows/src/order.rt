@@ -13,7 +13,7 @@ ghost use Rattle.rows.specs.Rows.{rowAt};
 ghost use Rattle.rows.specs.Down.{Down, beside, startAt, shifts};
 
 // Of so many rows the one that comes after t others, from the first on or from the last back.
-pub(crate) fn row_of(rows: usize, t: usize, forth: bool) -> usize
+pub(crate) fn row_at(rows: usize, t: usize, forth: bool) -> usize
     requires { ⌜ t < rows ⌝ }
     ensures { λ i. ⌜ (i ≡ rowAt forth rows t) × (i < rows) ⌝ }
 {
@@ -25,8 +25,8 @@ pub(crate) fn meet_next(buf: &mut [Pixel], s: Sweep, t: usize, darker: bool)
     requires { ⌜ Down s (now buf) × (t + 1 < s .majors) ⌝ }
     ensures { λ _. ⌜ Filled (now (buf .entry)) (now (buf .exit)) (startAt s darker t) (startAt s darker t + s .minors) (λ (x : ℕ). op darker (getD (now (buf .entry)) x 0) (beside (now (buf .entry)) (startAt s darker (t + 1)) (s .minors) (shifts s darker t) (shifts s darker (t + 1)) (x - startAt s darker t))) ⌝ }
 {
-    let i = row_of(s.majors, t, darker);
-    let j = row_of(s.majors, t + 1, darker);
+    let i = row_at(s.majors, t, darker);
+    let j = row_at(s.majors, t + 1, darker);
     let stride = s.major_step;
     meet_row(
         buf,

@@ -2,7 +2,7 @@
 // back: what a row asks for then stands in itself or in rows that come after it, and is as it was. The pixels from column `here` on meet those of their lines
 // from column `there` on, and one of the two is 0: in an erosion pixels meet those further on, in a dilation those further back. What has no partner meets 0.
 use crate::Pixel;
-use crate::order::row_of;
+use crate::order::row_at;
 use frame::Sweep;
 ghost use mathlib.Core.Path.{_≡_};
 ghost use mathlib.Core.Bool.{true};
@@ -19,7 +19,7 @@ fn start(s: Sweep, forth: bool, t: usize) -> usize
     requires { ⌜ Sane s × (t < s .minors) ⌝ }
     ensures { λ n. ⌜ n ≡ rowStart s forth t ⌝ }
 {
-    row_of(s.minors, t, forth) * s.minor_step
+    row_at(s.minors, t, forth) * s.minor_step
 }
 
 // The n pixels from `at` on meet those from `near` on, which stand in the last row of the count: a marked one, whose partner would stand one row further, meets 0.

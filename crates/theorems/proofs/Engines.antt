@@ -26,7 +26,7 @@ use Rattle.frame.specs.Sweep as sweep
 use Rattle.frame.specs.Sweep.{sweepOf}
 use Rattle.frame.proofs.ByLines.{frames-same}
 use Rattle.gathering.specs.Claiming.{ClaimsLine}
-use Rattle.rows.specs.Rows.{spot, PixelsAre, canOpen, OpensIf, OpensDown, OpensShallow}
+use Rattle.rows.specs.Rows.{byteOf, PixelsAre, canOpen, OpensIf, OpensDown, OpensShallow}
 
 -- ---- passes
 
@@ -109,27 +109,27 @@ module _ {b b₁ b₂ : List ℕ} where
 -- the bytes of a sweep are those of the frame's pixels, by columns where it is shallow and by rows where it is steep
 module _ {sh : Shape} {F : ℕ → ℕ → ℕ} {b b₁ b₂ : List ℕ} (s : Sweep) (ok : isFrame sh ≡ true) where
   columns-once : (s .«major_step» ≡ 1) × (s .«minor_step» ≡ sh .stride) × (s .majors ≡ sh .width) × (s .minors ≡ sh .height)
-      → PixelsAre (spot s) (s .majors) (s .minors) F b b₁ → PixelsAre (spot s) (s .majors) (s .minors) F b b₂ → b₁ ≡ b₂
+      → PixelsAre (byteOf s) (s .majors) (s .minors) F b b₁ → PixelsAre (byteOf s) (s .majors) (s .minors) F b b₂ → b₁ ≡ b₂
   columns-once (major-step, minor-step, majors, minors) p q =
       frames-same sh b₁ b₂ ok (p .same ∙ sym (q .same))
       (λ x y h l. subst (λ (i : ℕ). getD b₁ i 0 ≡ getD b₂ i 0) (byte x y) (p .within x y (omega arith) (omega arith) ∙ sym (q .within x y (omega arith) (omega arith))))
       (λ k gap.
-      let none : (i j : ℕ) → i < s .majors → j < s .minors → k ≡ spot s i j → ⊥ = λ i j h l e. gap i j (omega arith) (omega arith) (e ∙ byte i j) in
+      let none : (i j : ℕ) → i < s .majors → j < s .minors → k ≡ byteOf s i j → ⊥ = λ i j h l e. gap i j (omega arith) (omega arith) (e ∙ byte i j) in
       p .other k none ∙ sym (q .other k none))
     where
-      byte : (x y : ℕ) → spot s x y ≡ place sh (at x y)
+      byte : (x y : ℕ) → byteOf s x y ≡ place sh (at x y)
       byte x y = rw (major-step, minor-step) (omega arith)
 
   rows-once : (s .«major_step» ≡ sh .stride) × (s .«minor_step» ≡ 1) × (s .majors ≡ sh .height) × (s .minors ≡ sh .width)
-      → PixelsAre (spot s) (s .majors) (s .minors) F b b₁ → PixelsAre (spot s) (s .majors) (s .minors) F b b₂ → b₁ ≡ b₂
+      → PixelsAre (byteOf s) (s .majors) (s .minors) F b b₁ → PixelsAre (byteOf s) (s .majors) (s .minors) F b b₂ → b₁ ≡ b₂
   rows-once (major-step, minor-step, majors, minors) p q =
       frames-same sh b₁ b₂ ok (p .same ∙ sym (q .same))
       (λ x y h l. subst (λ (i : ℕ). getD b₁ i 0 ≡ getD b₂ i 0) (byte y x) (p .within y x (omega arith) (omega arith) ∙ sym (q .within y x (omega arith) (omega arith))))
       (λ k gap.
-      let none : (i j : ℕ) → i < s .majors → j < s .minors → k ≡ spot s i j → ⊥ = λ i j h l e. gap j i (omega arith) (omega arith) (e ∙ byte i j) in
+      let none : (i j : ℕ) → i < s .majors → j < s .minors → k ≡ byteOf s i j → ⊥ = λ i j h l e. gap j i (omega arith) (omega arith) (e ∙ byte i j) in
       p .other k none ∙ sym (q .other k none))
     where
-      byte : (y x : ℕ) → spot s y x ≡ place sh (at x y)
+      byte : (y x : ℕ) → byteOf s y x ≡ place sh (at x y)
       byte y x = rw (major-step, minor-step) (omega arith)
 
 columns : (sh : Shape) (d : Direction) → shallow d ≡ true

@@ -20,14 +20,13 @@ use Rattle.answer.proofs.Rules.{numbered, kept, done-kept, after-refused}
 use Rattle.line.specs.Windows.{erodedCount, dilatedCount}
 use Rattle.line.specs.Erosion.{erodeRules, ErodesLine}
 use Rattle.line.specs.Dilation.{dilateRules, DilatesLine}
-use Rattle.line.specs.Opening as line
-use Rattle.line.specs.Opening.{OpensLine}
+use Rattle.line.specs.Opening.{openRules, OpensLine}
 use Rattle.frame.specs.declared.direction.Direction.{Direction}
 use Rattle.frame.specs.declared.shape.Shape.{Shape}
 use Rattle.frame.specs.Lines.{pixels}
 use Rattle.gathering.specs.Gathering.{gatherRules, Gathers}
 use Rattle.gathering.specs.Scattering.{scatterRules, Scatters, Raises}
-use Rattle.opening.specs.Frames.{openRules, OpensFrame}
+use Rattle.opening.specs.Frames.{openFrameRules, OpensFrame}
 use Rattle.opening.specs.Sixteen.{highestRules, FindsHighest}
 use Rattle.opening.specs.Directions.{directionRules, FindsDirections}
 use Rattle.opening.specs.Host.{HostOpens}
@@ -97,7 +96,7 @@ module _ {src dst dst′ : List ℕ} {L : ℕ} {a : Answer} where
   dilate-settled p = settled _ _ refl (p .answers) (λ r. p .written ∙ after-refused a _ dst r)
 
 pub open-line-settled : {src dst dst′ scratch scratch′ : List ℕ} {L : ℕ} {a : Answer} → OpensLine src L dst dst′ scratch scratch′ a
-    → Settled (line.openRules (length src) L (length dst) (length scratch)) 0 a ((dst′ ≡ dst) × (scratch′ ≡ scratch))
+    → Settled (openRules (length src) L (length dst) (length scratch)) 0 a ((dst′ ≡ dst) × (scratch′ ≡ scratch))
 open-line-settled {dst = dst} {a = a} p = settled _ _ refl (p .answers) (λ r. (p .written ∙ after-refused a _ dst r, p .scratch-kept r))
 
 module _ {src : List ℕ} {sh : Shape} {d : Direction} {k : ℤ} {dst dst′ : List ℕ} {a : Answer} where
@@ -112,7 +111,7 @@ module _ {src : List ℕ} {sh : Shape} {d : Direction} {k : ℤ} {dst dst′ : L
 
 module _ {f : List ℕ} {sh : Shape} {L : ℕ} {g g′ t t′ : List ℕ} where
   pub open-frame-settled : {d : Direction} {a : Answer} → OpensFrame f sh d L g g′ t t′ a
-      → Settled (openRules sh d L (length f) (length g) (length t)) 0 a ((g′ ≡ g) × (t′ ≡ t))
+      → Settled (openFrameRules sh d L (length f) (length g) (length t)) 0 a ((g′ ≡ g) × (t′ ≡ t))
   open-frame-settled p = settled _ _ refl (p .answers) (p .refused)
 
   pub highest-settled : {a : Answer} → FindsHighest f sh L g g′ t t′ a → Settled (highestRules sh L (length f) (length g) (length t)) 0 a ((g′ ≡ g) × (t′ ≡ t))
@@ -124,7 +123,7 @@ module _ {f : List ℕ} {sh : Shape} {L : ℕ} {g g′ t t′ : List ℕ} where
 
   -- 'one 64-bit number back: the refusal number times 2^32, plus the figure'
   pub host-settled : {d : Direction} {n : ℕ} (p : HostOpens f sh d L g g′ t t′ n)
-      → Settled (openRules sh d L (length f) (length g) (length t)) 0 (p .a) ((g′ ≡ g) × (t′ ≡ t)) × (n ≡ p .a .number * 2 ^ 32 + p .a .figure)
+      → Settled (openFrameRules sh d L (length f) (length g) (length t)) 0 (p .a) ((g′ ≡ g) × (t′ ≡ t)) × (n ≡ p .a .number * 2 ^ 32 + p .a .figure)
   host-settled p = (open-frame-settled (p .opens), p .gives)
 
   -- the figure stays below 2^32, so that the number has both: the upper half is the refusal's number, the lower half its figure

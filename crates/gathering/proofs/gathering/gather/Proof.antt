@@ -16,7 +16,7 @@ use Rattle.frame.specs.Sweep.{sweepOf, Accepted}
 use Rattle.frame.proofs.Shapes.{sweep-sane, sweep-reach, sweep-accepted, needed-by}
 use Rattle.frame.proofs.Tracks.{Tracks, track-line, track-values}
 use Rattle.gathering.specs.Gathering.{gatherRules}
-use Rattle.gathering.specs.Steps.{lineRules}
+use Rattle.gathering.specs.Steps.{frameLineRules}
 use Rattle.gathering.proofs.Calls.{line-answer, Fits, gather-fits}
 use borrow.Author.Needs.{needs}
 use Rattle.gathering.proofs.gathering.gather.Statement.{statement}
@@ -48,7 +48,7 @@ says c =
     let count = ap (λ (t : Track). t .count) (track-is (c .before .before .before)) in
     let bytes : Accepted (a .shape) (a .d) → c .before .bytes .result ≡ needed (a .shape) = λ ok. c .before .bytes .ensures ∙ needed-by (a .shape) (ok .frame) in
     c .refusal .ensures
-    ∙ ap (λ (framed : Bool). answer (lineRules framed n (length (a .src .now)) (c .before .bytes .result) (length (a .dst .now)) n) n) (c .before .before .is-frame .ensures)
+    ∙ ap (λ (framed : Bool). answer (frameLineRules framed n (length (a .src .now)) (c .before .bytes .result) (length (a .dst .now)) n) n) (c .before .before .is-frame .ensures)
     ∙ line-answer (a .shape) (a .d) (a .line) (length (a .src .now)) (needed (a .shape)) (length (a .dst .now)) (length (pixels (a .shape) (a .d) (a .line))) n (c .before .bytes .result) n count (λ ok counted. (bytes ok, counted))
 
 returns : tie.Need-returns

@@ -1,7 +1,7 @@
 -- One rule after the other.
 use mathlib.Core.Path.{refl, _∙_}
 use Rattle.answer.proofs.Rules.{answer-chain}
-use Rattle.gathering.specs.Steps.{lineRules}
+use Rattle.gathering.specs.Steps.{frameLineRules}
 use borrow.Author.Needs.{needs}
 use Rattle.gathering.proofs.rules.refusal.Statement.{statement}
 use Rattle.gathering.proofs.rules.refusal.Tie as tie
@@ -26,7 +26,7 @@ returns c =
     let a = c .before .before .before .before .before .args in
     c .needing2 .ensures
     ∙ rw (c .before .needing .ensures, c .before .before .unless2 .ensures, c .before .before .before .unless .ensures, c .before .before .before .before .done .ensures)
-    (answer-chain (lineRules (a .framed) (a .count) (a .size) (a .from) (a .room) (a .to)) (a .count) refl)
+    (answer-chain (frameLineRules (a .framed) (a .count) (a .size) (a .from) (a .room) (a .to)) (a .count) refl)
 
 pub refusal-spec : {M : Type 1} → statement M
 refusal-spec =

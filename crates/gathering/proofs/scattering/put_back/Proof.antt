@@ -15,7 +15,7 @@ use Rattle.frame.specs.Sweep.{sweepOf, Accepted}
 use Rattle.frame.proofs.Shapes.{sweep-sane, sweep-reach, sweep-accepted, needed-by}
 use Rattle.frame.proofs.Tracks.{Tracks, track-line}
 use Rattle.gathering.specs.Scattering.{scatterRules, put}
-use Rattle.gathering.specs.Steps.{lineRules, combining}
+use Rattle.gathering.specs.Steps.{frameLineRules, combining}
 use Rattle.gathering.proofs.Calls.{line-answer, Fits, scatter-fits}
 use borrow.Author.Needs.{needs}
 use Rattle.gathering.proofs.scattering.put_back.Statement.{statement}
@@ -47,7 +47,7 @@ says c =
     let count = ap (λ (t : Track). t .count) (track-is (c .before .before .before)) in
     let bytes : Accepted (a .shape) (a .d) → c .before .bytes .result ≡ needed (a .shape) = λ ok. c .before .bytes .ensures ∙ needed-by (a .shape) (ok .frame) in
     c .refusal .ensures
-    ∙ ap (λ (framed : Bool). answer (lineRules framed n (length (a .src .now)) n (length (a .dst .now)) (c .before .bytes .result)) n) (c .before .before .is-frame .ensures)
+    ∙ ap (λ (framed : Bool). answer (frameLineRules framed n (length (a .src .now)) n (length (a .dst .now)) (c .before .bytes .result)) n) (c .before .before .is-frame .ensures)
     ∙ line-answer (a .shape) (a .d) (a .line) (length (a .src .now)) (length (pixels (a .shape) (a .d) (a .line))) (length (a .dst .now)) (needed (a .shape)) n n (c .before .bytes .result) count (λ ok counted. (counted, bytes ok))
 
 returns : tie.Need-returns

@@ -4,21 +4,21 @@ use mathlib.Core.List.{List}
 use Prim.Native.Nat.{ℕ, _+_, _-_, _≤_}
 use native.Mathlib.Omega.{arith}
 use lib.ListN
-use Rattle.line.specs.Passes.{Erodes}
+use Rattle.line.specs.Passes.{ErodedFront}
 use Rattle.line.proofs.Parts.{narrowed-by}
-use Rattle.line.proofs.Passes.{erodes-one, erodes-more}
+use Rattle.line.proofs.Passes.{eroded-front-one, eroded-front-more}
 use borrow.Author.Needs.{needs}
 use Rattle.line.proofs.doubling.erode_in_place.Statement.{statement}
 use Rattle.line.proofs.doubling.erode_in_place.Tie as tie
 
 abbrev Inv-loop : tie.InvT-loop
-Inv-loop line₀ length n w₀ line w = (lib.ListN.length line ≡ lib.ListN.length line₀) × (1 ≤ w) × (w ≤ length) × Erodes line₀ w line
+Inv-loop line₀ length n w₀ line w = (lib.ListN.length line ≡ lib.ListN.length line₀) × (1 ≤ w) × (w ≤ length) × ErodedFront line₀ w line
 
 abbrev μ-loop : tie.MeasureT-loop
 μ-loop line₀ length n w₀ line w = length - w
 
 loop-holds : tie.Need-loop-holds Inv-loop μ-loop
-loop-holds c = (search needs, search needs, search needs, erodes-one _)
+loop-holds c = (search needs, search needs, search needs, eroded-front-one _)
 
 growth-requires : tie.Need-growth-requires Inv-loop μ-loop
 growth-requires c κs = search needs
@@ -47,7 +47,7 @@ loop-again c =
       omega (arith, pass .kept .0, at .inv .0),
       omega (arith, at .inv),
       omega (arith, grown .ensures, at .inv),
-      erodes-more (at .inv .3) (narrowed-by _ _ (pass .ensures) (omega (arith, grown .ensures, at .inv, pre))) (omega (arith, at .inv)) (omega (arith, grown .ensures)) (omega (arith, grown .ensures, at .inv, pre)),
+      eroded-front-more (at .inv .3) (narrowed-by _ _ (pass .ensures) (omega (arith, grown .ensures, at .inv, pre))) (omega (arith, at .inv)) (omega (arith, grown .ensures)) (omega (arith, grown .ensures, at .inv, pre)),
     )
 
 same-length : tie.Need-same-length Inv-loop μ-loop
@@ -57,7 +57,7 @@ returns : tie.Need-returns Inv-loop μ-loop
 returns c =
     let line₀ = c .before .before .before .args .line .now in
     let at = c .before .loop in
-    subst (λ (w : ℕ). Erodes line₀ w (at .line)) (omega arith) (at .inv .3)
+    subst (λ (w : ℕ). ErodedFront line₀ w (at .line)) (omega arith) (at .inv .3)
 
 pub erode-in-place-spec : {M : Type 1} → statement M
 erode-in-place-spec = tie.close (tie.spec Inv-loop μ-loop loop-holds growth-requires add-w sub-meet add-meet meet-requires loop-less loop-again same-length returns)

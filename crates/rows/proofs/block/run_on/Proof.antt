@@ -27,8 +27,8 @@ add-end c = search needs
 add-t : tie.Need-add-t Inv-loop μ-loop
 add-t c = search needs
 
-row-of-requires : tie.Need-row-of-requires Inv-loop μ-loop
-row-of-requires c κs = search needs
+row-at-requires : tie.Need-row-at-requires Inv-loop μ-loop
+row-at-requires c κs = search needs
 
 start-levels-requires : tie.Need-start-levels-requires Inv-loop μ-loop
 start-levels-requires c κs = search needs
@@ -41,22 +41,22 @@ loop-holds c =
       omega arith,
       refl,
       level-first (a .s) (a .darker) (pre .0) (a .buf .now) (a .length) (a .from + a .length) (a .from + 1)
-          (rw (c .before .before .before .before .row-of .ensures .0) at (c .before .before .start-levels .ensures)) (omega arith) (pre .2),
+          (rw (c .before .before .before .before .row-at .ensures .0) at (c .before .before .start-levels .ensures)) (omega arith) (pre .2),
       rows-none _ _ _ _ _,
     )
 
 add-loop : tie.Need-add-loop Inv-loop μ-loop
 add-loop c = search needs
 
-row-of-requires-2 : tie.Need-row-of-requires-2 Inv-loop μ-loop
-row-of-requires-2 c κs = omega (arith, c .before .before .loop .inv .1, c .before .before .before .before .before .before .before .before .before .before .before .pre .2)
+row-at-requires-2 : tie.Need-row-at-requires-2 Inv-loop μ-loop
+row-at-requires-2 c κs = omega (arith, c .before .before .loop .inv .1, c .before .before .before .before .before .before .before .before .before .before .before .pre .2)
 
 meet-row-by-requires : tie.Need-meet-row-by-requires Inv-loop μ-loop
 meet-row-by-requires c κs =
     let pre = c .before .before .before .before .before .before .before .before .before .before .before .before .before .pre in
     let at = c .before .before .before .before .loop in
     let started = c .before .before .before .before .before .before .before .start-levels .kept .1 .1 .1 .0 in
-    (down-still (pre .0) (at .inv .4 .same), c .before .row-of2 .ensures .1, omega (arith, pre .3, at .inv .2, started))
+    (down-still (pre .0) (at .inv .4 .same), c .before .row-at2 .ensures .1, omega (arith, pre .3, at .inv .2, started))
 
 add-t-2 : tie.Need-add-t-2 Inv-loop μ-loop
 add-t-2 c = search needs
@@ -85,7 +85,7 @@ loop-again c =
     let at = c .before .before .before .before .before .before .before .before .before .before .before .before .loop in
     let end = a .from + a .length in
     let more = c .before .before .before .before .before .before .before .before .before .before .before .loop-test .taken in
-    let row = c .before .before .before .before .before .before .before .before .before .row-of2 .ensures .0 in
+    let row = c .before .before .before .before .before .before .before .before .before .row-at2 .ensures .0 in
     let rows = on-more s (a .darker) (pre .0) (beyond s (a .darker) (a .buf .now) (a .length) end) (at .inv .4) (at .inv .3)
     (rw row at (c .before .before .before .before .before .before .before .meet-row-by .ensures)) (at .inv .0) (omega (arith, at .inv .1, pre .2)) in (
       omega (arith, at .inv .0),
@@ -96,15 +96,15 @@ loop-again c =
       rows,
     )
 
-row-of-requires-3 : tie.Need-row-of-requires-3 Inv-loop μ-loop
-row-of-requires-3 c κs = omega (arith, c .before .before .loop .inv .1, c .before .before .before .before .before .before .before .before .before .before .before .pre .2)
+row-at-requires-3 : tie.Need-row-at-requires-3 Inv-loop μ-loop
+row-at-requires-3 c κs = omega (arith, c .before .before .loop .inv .1, c .before .before .before .before .before .before .before .before .before .before .before .pre .2)
 
 meet-row-by-requires-2 : tie.Need-meet-row-by-requires-2 Inv-loop μ-loop
 meet-row-by-requires-2 c κs =
     let pre = c .before .before .before .before .before .before .before .before .before .before .before .before .before .pre in
     let at = c .before .before .before .before .loop in
     let started = c .before .before .before .before .before .before .before .start-levels .kept .1 .1 .1 .0 in
-    (down-still (pre .0) (at .inv .4 .same), c .before .row-of3 .ensures .1, omega (arith, pre .3, at .inv .2, started))
+    (down-still (pre .0) (at .inv .4 .same), c .before .row-at3 .ensures .1, omega (arith, pre .3, at .inv .2, started))
 
 same-length : tie.Need-same-length Inv-loop μ-loop
 same-length c = c .before .before .meet-row-by2 .ensures .same ∙ c .before .before .before .before .before .before .before .loop .inv .4 .same
@@ -122,7 +122,7 @@ returns c =
     let at = c .before .before .before .before .before .before .before .loop in
     rows-end
     (on-more s (a .darker) (pre .0) (beyond s (a .darker) (a .buf .now) (a .length) (a .from + a .length)) (at .inv .4) (at .inv .3)
-    (rw (c .before .before .before .before .row-of3 .ensures .0) at (c .before .before .meet-row-by2 .ensures)) (at .inv .0) (omega (arith, at .inv .1, pre .2)))
+    (rw (c .before .before .before .before .row-at3 .ensures .0) at (c .before .before .meet-row-by2 .ensures)) (at .inv .0) (omega (arith, at .inv .1, pre .2)))
     (omega (arith, at .inv .1, c .before .before .before .before .before .before .loop-test .left))
 
 pub run-on-spec : {M : Type 1} → statement M
@@ -133,11 +133,11 @@ run-on-spec =
     μ-loop
     add-end
     add-t
-    row-of-requires
+    row-at-requires
     start-levels-requires
     loop-holds
     add-loop
-    row-of-requires-2
+    row-at-requires-2
     meet-row-by-requires
     add-t-2
     add-take-row
@@ -145,7 +145,7 @@ run-on-spec =
     take-row-requires
     loop-less
     loop-again
-    row-of-requires-3
+    row-at-requires-3
     meet-row-by-requires-2
     same-length
     same-length-2

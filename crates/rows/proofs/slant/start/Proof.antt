@@ -8,20 +8,20 @@ use borrow.Author.Needs.{needs}
 use Rattle.rows.proofs.slant.start.Statement.{statement}
 use Rattle.rows.proofs.slant.start.Tie as tie
 
-row-of-requires : tie.Need-row-of-requires
-row-of-requires c κs = search needs
+row-at-requires : tie.Need-row-at-requires
+row-at-requires c κs = search needs
 
 mul-result : tie.Need-mul-result
 mul-result c =
     let s = c .before .before .args .s in
     let sane = c .before .before .pre .0 in
-    let row = c .before .row-of in
+    let row = c .before .row-at in
     let fits : row .result * s .«minor_step» ≤ longest * widest =
     mul-le-mul {n₁ = row .result} {m₁ = s .«minor_step»} {n₂ = longest} {m₂ = widest} (omega (arith, row .ensures .1, sane .minors)) (sane .«minor_step») in
     omega arith
 
 returns : tie.Need-returns
-returns c = ap (λ (i : ℕ). i * c .before .before .args .s .«minor_step») (c .before .row-of .ensures .0)
+returns c = ap (λ (i : ℕ). i * c .before .before .args .s .«minor_step») (c .before .row-at .ensures .0)
 
 pub start-spec : {M : Type 1} → statement M
-start-spec = tie.close (tie.spec row-of-requires mul-result returns)
+start-spec = tie.close (tie.spec row-at-requires mul-result returns)

@@ -2,8 +2,8 @@
 use native.Mathlib.Omega.{arith}
 use Rattle.rows.specs.Rows as rows
 use borrow.Author.Needs.{needs}
-use Rattle.rows.proofs.order.row_of.Statement.{statement}
-use Rattle.rows.proofs.order.row_of.Tie as tie
+use Rattle.rows.proofs.order.row_at.Statement.{statement}
+use Rattle.rows.proofs.order.row_at.Tie as tie
 
 sub-result : tie.Need-sub-result
 sub-result c = search needs
@@ -19,5 +19,5 @@ returns-2 : tie.Need-returns-2
 unfolding rows.rowAt
 returns-2 c = (rw (c .if1 .left), omega arith)
 
-pub row-of-spec : {M : Type 1} → statement M
-row-of-spec = tie.close (tie.spec sub-result sub-result-2 returns returns-2)
+pub row-at-spec : {M : Type 1} → statement M
+row-at-spec = tie.close (tie.spec sub-result sub-result-2 returns returns-2)
