@@ -27,7 +27,7 @@ fn past(run: usize, rise: usize, majors: usize, x: usize) -> usize
     e
 }
 
-// The first major coordinate at which how far a line has moved aside, and `more`, are above `most`.
+// The first major coordinate at which a line has moved so far aside that with `more` it is above `most`.
 fn skip(run: usize, rise: usize, majors: usize, more: usize, most: usize) -> usize
     requires { ⌜ (1 ≤ run) × (run ≤ steepest) × (rise ≤ run) × (most ≤ 8 * longest) ⌝ }
     ensures { λ b. ⌜ b ≡ skipped run rise majors more most ⌝ }
