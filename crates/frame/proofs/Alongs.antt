@@ -48,16 +48,16 @@ shift-flat s sane z i = go (s .falling) refl
         shift-rising s e i ∙ omega (arith, sane .top)
 
 -- where no line moves aside, line u has a pixel at every major coordinate
-cells-flat : (s : Sweep) (u : ℕ) → ((i : ℕ) → shift s i ≡ 0) → u < s .minors → cells s u (s .majors) ≡ table (λ (i : ℕ). i * s .«major_step» + u * s .«minor_step») (s .majors)
+cells-flat : (s : Sweep) (u : ℕ) → ((i : ℕ) → shift s i ≡ 0) → u < s .minors → cells s u (s .majors) ≡ table (λ (i : ℕ). i * s .pace + u * s .sidestep) (s .majors)
 unfolding cells cell
 cells-flat s u still here =
     those-stretch (hit s u) (cell s u) (s .majors) 0 (s .majors) (omega arith)
     (λ i l h. hit-at s u i (omega (arith, still i)) (omega (arith, still i))) (λ i h. absurd (omega arith)) (λ i l h. absurd (omega arith))
-    ∙ table-same (λ (i : ℕ). cell s u (0 + i)) (λ (i : ℕ). i * s .«major_step» + u * s .«minor_step») (s .majors)
+    ∙ table-same (λ (i : ℕ). cell s u (0 + i)) (λ (i : ℕ). i * s .pace + u * s .sidestep) (s .majors)
     (λ i h.
     let same : 0 + i ≡ i = omega arith in
     let aside : u - shift s i ≡ u = omega (arith, still i) in
-    ap (cell s u) same ∙ ap (λ (k : ℕ). i * s .«major_step» + k * s .«minor_step») aside)
+    ap (cell s u) same ∙ ap (λ (k : ℕ). i * s .pace + k * s .sidestep) aside)
 
 pub flat-shallow : (d : Direction) → natAbs (d .q) ≡ 0 → shallow d ≡ true
 flat-shallow d flat = le-leb (natAbs (d .q)) (natAbs (d .p)) (omega arith)
@@ -86,12 +86,12 @@ module _ (sh : Shape) (d : Direction) (ok : Accepted sh d) (flat : natAbs (d .q)
       let s = sweepOf sh d in
       let wide : s .majors ≡ sh .width = ap (λ (s : Sweep). s .majors) (flat-sweep sh d flat) in
       let high : s .minors ≡ sh .height = ap (λ (s : Sweep). s .minors) (flat-sweep sh d flat) in
-      let one : s .«major_step» ≡ 1 = ap (λ (s : Sweep). s .«major_step») (flat-sweep sh d flat) in
-      let apart : s .«minor_step» ≡ sh .stride = ap (λ (s : Sweep). s .«minor_step») (flat-sweep sh d flat) in
+      let one : s .pace ≡ 1 = ap (λ (s : Sweep). s .pace) (flat-sweep sh d flat) in
+      let apart : s .sidestep ≡ sh .stride = ap (λ (s : Sweep). s .sidestep) (flat-sweep sh d flat) in
       ap (gathered f sh d) (number sh d u)
       ∙ values-are sh d (accepted-some ok) u f
       ∙ ap (valuesAt f) (cells-flat s u flat-shift (omega arith))
-      ∙ map-table (λ (c : ℕ). getD f c 0) (λ (i : ℕ). i * s .«major_step» + u * s .«minor_step») (s .majors)
-      ∙ table-same (λ (i : ℕ). getD f (i * s .«major_step» + u * s .«minor_step») 0) (λ (x : ℕ). getD f (place sh (at x u)) 0) (s .majors)
+      ∙ map-table (λ (c : ℕ). getD f c 0) (λ (i : ℕ). i * s .pace + u * s .sidestep) (s .majors)
+      ∙ table-same (λ (i : ℕ). getD f (i * s .pace + u * s .sidestep) 0) (λ (x : ℕ). getD f (place sh (at x u)) 0) (s .majors)
       (λ i h. ap (λ (c : ℕ). getD f c 0) (omega (arith, ap (λ (m : ℕ). i * m) one, ap (λ (m : ℕ). u * m) apart)))
       ∙ ap (table (λ (x : ℕ). getD f (place sh (at x u)) 0)) wide

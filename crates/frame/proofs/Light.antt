@@ -32,17 +32,17 @@ module _ (s : Sweep) (f : List ℕ) where
 
   -- at one major coordinate, the lines have every minor coordinate once
   column : Sane s → (i : ℕ) → i < s .majors
-      → those (λ (u : ℕ). hit s u i) (λ (u : ℕ). getD f (cell s u i) 0) (lines s) ≡ table (λ (j : ℕ). getD f (i * s .«major_step» + j * s .«minor_step») 0) (s .minors)
+      → those (λ (u : ℕ). hit s u i) (λ (u : ℕ). getD f (cell s u i) 0) (lines s) ≡ table (λ (j : ℕ). getD f (i * s .pace + j * s .sidestep) 0) (s .minors)
   unfolding cell
   column sane i h =
       those-stretch (λ (u : ℕ). hit s u i) (λ (u : ℕ). getD f (cell s u i) 0) (lines s) (shift s i) (s .minors) (omega (arith, shift-le s sane i h))
       (λ u l k. hit-at s u i l k) (λ u l. hit-below s u i l) (λ u l k. hit-past s u i l)
-      ∙ table-same (λ (j : ℕ). getD f (cell s (shift s i + j) i) 0) (λ (j : ℕ). getD f (i * s .«major_step» + j * s .«minor_step») 0) (s .minors)
-      (λ j l. let e : shift s i + j - shift s i ≡ j = omega arith in ap (λ (k : ℕ). getD f (i * s .«major_step» + k * s .«minor_step») 0) e)
+      ∙ table-same (λ (j : ℕ). getD f (cell s (shift s i + j) i) 0) (λ (j : ℕ). getD f (i * s .pace + j * s .sidestep) 0) (s .minors)
+      (λ j l. let e : shift s i + j - shift s i ≡ j = omega arith in ap (λ (k : ℕ). getD f (i * s .pace + k * s .sidestep) 0) e)
 
   sweep-total : Sane s
       → total (table (λ (u : ℕ). total (valuesAt f (cells s u (s .majors)))) (lines s))
-      ≡ total (table (λ (i : ℕ). total (table (λ (j : ℕ). getD f (i * s .«major_step» + j * s .«minor_step») 0) (s .minors))) (s .majors))
+      ≡ total (table (λ (i : ℕ). total (table (λ (j : ℕ). getD f (i * s .pace + j * s .sidestep) 0) (s .minors))) (s .majors))
   sweep-total sane =
       ap total (table-same _ _ (lines s) (λ u l. line-total u))
       ∙ total-swap (hit s) (λ (u i : ℕ). getD f (cell s u i) 0) (lines s) (s .majors)
@@ -50,7 +50,7 @@ module _ (s : Sweep) (f : List ℕ) where
 
 -- the coordinates of a sweep are those of the frame
 pixels-total : (f : List ℕ) (sh : Shape) (d : Direction)
-    → (let s = sweepOf sh d in total (table (λ (i : ℕ). total (table (λ (j : ℕ). getD f (i * s .«major_step» + j * s .«minor_step») 0) (s .minors))) (s .majors)) ≡ light f sh)
+    → (let s = sweepOf sh d in total (table (λ (i : ℕ). total (table (λ (j : ℕ). getD f (i * s .pace + j * s .sidestep) 0) (s .minors))) (s .majors)) ≡ light f sh)
 unfolding sweepOf
 pixels-total f sh d = go (shallow d) refl
   where
@@ -58,7 +58,7 @@ pixels-total f sh d = go (shallow d) refl
     same a b e = ap (λ (c : ℕ). getD f c 0) e
 
     go : (t : Bool) → shallow d ≡ t
-        → (let s = sweepOf sh d in total (table (λ (i : ℕ). total (table (λ (j : ℕ). getD f (i * s .«major_step» + j * s .«minor_step») 0) (s .minors))) (s .majors)) ≡ light f sh)
+        → (let s = sweepOf sh d in total (table (λ (i : ℕ). total (table (λ (j : ℕ). getD f (i * s .pace + j * s .sidestep) 0) (s .minors))) (s .majors)) ≡ light f sh)
     go true e =
         rw e
         (total-swap (λ i j. true) (λ (i j : ℕ). getD f (i * 1 + j * sh .stride) 0) (sh .width) (sh .height)

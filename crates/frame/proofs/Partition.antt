@@ -49,13 +49,13 @@ same-cell s far u v i j h k e f q = go far
 
     go : Apart s → (i ≡ j) × (u ≡ v)
     go (inl w) =
-        let t = flat (s .«minor_step») i (u - shift s i) j (v - shift s j) (omega (arith, w .1)) (omega (arith, w .1))
+        let t = flat (s .sidestep) i (u - shift s i) j (v - shift s j) (omega (arith, w .1)) (omega (arith, w .1))
         (omega (arith, q, ap (λ (m : ℕ). i * m) (w .0), ap (λ (m : ℕ). j * m) (w .0))) in
         both (t .0) (t .1)
     go (inr w) =
         let a = hits s u i e in
         let b = hits s v j f in
-        let t = flat (s .«major_step») (u - shift s i) i (v - shift s j) j (omega (arith, w .1, a)) (omega (arith, w .1, b))
+        let t = flat (s .pace) (u - shift s i) i (v - shift s j) j (omega (arith, w .1, a)) (omega (arith, w .1, b))
         (omega (arith, q, ap (λ (m : ℕ). (u - shift s i) * m) (w .0), ap (λ (m : ℕ). (v - shift s j) * m) (w .0))) in
         both (t .1) (t .0)
 

@@ -98,9 +98,9 @@ module _ {sh : Shape} {d : Direction} (a : Accepted sh d) where
             majors = f .width;
             wide = f .high;
             minors = f .height;
-            «major_step» = omega arith;
+            pace = omega arith;
             step = omega (arith, f);
-            «minor_step» = f .most;
+            sidestep = f .most;
             slow = slow;
             moves = omega (arith, v);
             run = v .left;
@@ -114,9 +114,9 @@ module _ {sh : Shape} {d : Direction} (a : Accepted sh d) where
             majors = f .height;
             wide = f .wide;
             minors = f .width;
-            «major_step» = f .most;
+            pace = f .most;
             step = omega arith;
-            «minor_step» = omega arith;
+            sidestep = omega arith;
             slow = omega arith;
             moves = omega (arith, v);
             run = v .right;

@@ -67,8 +67,8 @@ pub cell-reach : (s : Sweep) (u i n : ℕ) → i < s .majors → hit s u i ≡ t
 unfolding cell
 cell-reach s u i n h e k =
     let a = hits s u i e in
-    let p : i * s .«major_step» ≤ (s .majors - 1) * s .«major_step» = mul-le-mul-right (s .«major_step») (omega arith) in
-    let q : (u - shift s i) * s .«minor_step» ≤ (s .minors - 1) * s .«minor_step» = mul-le-mul-right (s .«minor_step») (omega arith) in
+    let p : i * s .pace ≤ (s .majors - 1) * s .pace = mul-le-mul-right (s .pace) (omega arith) in
+    let q : (u - shift s i) * s .sidestep ≤ (s .minors - 1) * s .sidestep = mul-le-mul-right (s .sidestep) (omega arith) in
     omega arith
 
 -- ---- the lines of a sweep

@@ -1,5 +1,5 @@
 -- The lines of a frame in unsigned numbers, for the code and the laws. The major coordinate is the one that ascends along a line, the minor the other.
--- A sweep's majors and minors are how many of each the frame has; its major_step and minor_step are how many bytes it is from one to the next.
+-- A sweep's majors and minors are how many of each the frame has; its pace and sidestep are how many bytes it is from one to the next.
 -- A line has an index from 0 up: its number is the index less `low`.
 --   sweepOf sh d       the sweep of a frame in a direction (sweeping: by its numbers)
 --   sweepFor sh d      the same; noSweep where rule 1 or 2 refuses them
@@ -36,7 +36,7 @@ use Rattle.frame.specs.Lines.{r}
 
 abbrev pub sweeping : ℕ → ℕ → ℕ → ℕ → ℕ → ℕ → Bool → Sweep
 sweeping m n major-step minor-step a b f =
-    record { majors = m; minors = n; «major_step» = major-step; «minor_step» = minor-step; run = a; rise = b; falling = f; top = r a b (m - 1) }
+    record { majors = m; minors = n; pace = major-step; sidestep = minor-step; run = a; rise = b; falling = f; top = r a b (m - 1) }
 
 unfoldable pub sweepOf : Shape → Direction → Sweep
 sweepOf sh d =
@@ -46,7 +46,7 @@ sweepOf sh d =
 
 -- a sweep without a line
 abbrev pub noSweep : Sweep
-noSweep = record { majors = 0; minors = 0; «major_step» = 0; «minor_step» = 0; run = 0; rise = 0; falling = false; top = 0 }
+noSweep = record { majors = 0; minors = 0; pace = 0; sidestep = 0; run = 0; rise = 0; falling = false; top = 0 }
 
 abbrev pub sweepFor : Shape → Direction → Sweep
 sweepFor sh d = cond (isFrame sh && isDirection d) (sweepOf sh d) noSweep
@@ -67,7 +67,7 @@ unfoldable pub hit : Sweep → ℕ → ℕ → Bool
 hit s u i = leb (shift s i) u && ltb u (shift s i + s .minors)
 
 unfoldable pub cell : Sweep → ℕ → ℕ → ℕ
-cell s u i = i * s .«major_step» + (u - shift s i) * s .«minor_step»
+cell s u i = i * s .pace + (u - shift s i) * s .sidestep
 
 unfoldable pub cells : Sweep → ℕ → ℕ → List ℕ
 cells s u n = those (hit s u) (cell s u) n
@@ -87,17 +87,17 @@ pub record Sane (s : Sweep) : Type 0 where
   pub majors : s .majors ≤ longest
   pub wide : 1 ≤ s .minors
   pub minors : s .minors ≤ longest
-  pub «major_step» : s .«major_step» ≤ widest
-  pub step : 1 ≤ s .«minor_step»
-  pub «minor_step» : s .«minor_step» ≤ widest
+  pub pace : s .pace ≤ widest
+  pub step : 1 ≤ s .sidestep
+  pub sidestep : s .sidestep ≤ widest
   pub slow : s .rise ≤ s .run
   pub moves : 1 ≤ s .run
   pub run : s .run ≤ steepest
   pub top : s .top ≡ r (s .run) (s .rise) (s .majors - 1)
 
 abbrev pub Reach : Sweep → ℕ → Type 0
-Reach s n = (s .majors - 1) * s .«major_step» + (s .minors - 1) * s .«minor_step» < n
+Reach s n = (s .majors - 1) * s .pace + (s .minors - 1) * s .sidestep < n
 
 -- the smaller of the two steps is 1, and the larger passes a whole row
 abbrev pub Apart : Sweep → Type 0
-Apart s = ((s .«major_step» ≡ 1) × (s .majors ≤ s .«minor_step»)) ⊎ ((s .«minor_step» ≡ 1) × (s .minors ≤ s .«major_step»))
+Apart s = ((s .pace ≡ 1) × (s .majors ≤ s .sidestep)) ⊎ ((s .sidestep ≡ 1) × (s .minors ≤ s .pace))

@@ -12,13 +12,13 @@ ghost use Rattle.answer.specs.Limits.{longest, steepest};
 ghost use Rattle.frame.specs.Lines.{r};
 ghost use Rattle.frame.specs.Sweep.{sweepOf, sweepFor, shiftAt, low, Accepted};
 
-// How many major and minor coordinates there are, how many bytes of the frame it is from one to the next, the slope, and how far a line moves aside from its
-// first major coordinate to the last.
+// How many major and minor coordinates there are; how many bytes of the frame it is from one major coordinate to the next (`pace`) and from one minor coordinate
+// to the next (`sidestep`); the slope; and how far a line moves aside from its first major coordinate to the last.
 pub struct Sweep {
     pub majors: usize,
     pub minors: usize,
-    pub major_step: usize,
-    pub minor_step: usize,
+    pub pace: usize,
+    pub sidestep: usize,
     pub run: usize,
     pub rise: usize,
     pub falling: bool,
@@ -28,8 +28,8 @@ pub struct Sweep {
 const NONE: Sweep = Sweep {
     majors: 0,
     minors: 0,
-    major_step: 0,
-    minor_step: 0,
+    pace: 0,
+    sidestep: 0,
     run: 0,
     rise: 0,
     falling: false,
@@ -62,8 +62,8 @@ pub(crate) fn swept(shape: Shape, d: Direction) -> Sweep
         return Sweep {
             majors: width,
             minors: height,
-            major_step: 1,
-            minor_step: stride,
+            pace: 1,
+            sidestep: stride,
             run: a,
             rise: b,
             falling,
@@ -74,8 +74,8 @@ pub(crate) fn swept(shape: Shape, d: Direction) -> Sweep
     Sweep {
         majors: height,
         minors: width,
-        major_step: stride,
-        minor_step: 1,
+        pace: stride,
+        sidestep: 1,
         run: b,
         rise: a,
         falling,

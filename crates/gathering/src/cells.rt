@@ -17,9 +17,9 @@ pub(crate) fn minor_of(s: Sweep, u: usize, i: usize) -> usize
 // The byte of the pixel with major coordinate i and minor coordinate j.
 pub(crate) fn byte_of(s: Sweep, i: usize, j: usize) -> usize
     requires { ⌜ Sane s × (i < s .majors) × (j < s .minors) ⌝ }
-    ensures { λ n. ⌜ n ≡ i * s .«major_step» + j * s .«minor_step» ⌝ }
+    ensures { λ n. ⌜ n ≡ i * s .pace + j * s .sidestep ⌝ }
 {
-    i * s.major_step + j * s.minor_step
+    i * s.pace + j * s.sidestep
 }
 
 // The byte of line u's pixel at major coordinate i.

@@ -36,19 +36,19 @@ use Rattle.rows.proofs.Extremes.{extreme-one, extreme-back, extreme-on,
 pub down-still : {s : Sweep} {b a : List ℕ} → Down s b → length a ≡ length b → Down s a
 down-still down same = record { sane = down .sane; next = down .next; apart = down .apart; room = omega (arith, down .room, same) }
 
-pub down-row : {s : Sweep} {g : List ℕ} → Down s g → (i : ℕ) → i < s .majors → i * s .«major_step» + s .minors ≤ length g
-down-row {s} {g} to i in′ = row-room (s .«major_step») (s .minors) (s .majors) (length g) i in′ (to .room)
+pub down-row : {s : Sweep} {g : List ℕ} → Down s g → (i : ℕ) → i < s .majors → i * s .pace + s .minors ≤ length g
+down-row {s} {g} to i in′ = row-room (s .pace) (s .minors) (s .majors) (length g) i in′ (to .room)
 
 pub down-shift : {s : Sweep} {g : List ℕ} → Down s g → (i : ℕ) → i < s .majors → shiftAt s i ≡ shift s i
 down-shift {s} to i in′ = shift-is s (to .sane) i (omega (arith, to .sane .majors))
 
-pub side-by-side : (s : Sweep) → s .«minor_step» ≡ 1 → (i k : ℕ) → byteOf s i k ≡ i * s .«major_step» + k
-side-by-side s e i k = ap (λ (m : ℕ). i * s .«major_step» + k * m) e ∙ ap (λ (m : ℕ). i * s .«major_step» + m) (mul-one k)
+pub side-by-side : (s : Sweep) → s .sidestep ≡ 1 → (i k : ℕ) → byteOf s i k ≡ i * s .pace + k
+side-by-side s e i k = ap (λ (m : ℕ). i * s .pace + k * m) e ∙ ap (λ (m : ℕ). i * s .pace + m) (mul-one k)
 
 level-at : (s : Sweep) → Sane s → {φ : ℕ → ℕ} {m : List ℕ} → LevelsAre s φ m → (i k : ℕ) → i < s .majors → k < s .minors
-    → getD m (shift s i + (i * s .«major_step» + k - i * s .«major_step»)) 0 ≡ φ (k + shift s i)
+    → getD m (shift s i + (i * s .pace + k - i * s .pace)) 0 ≡ φ (k + shift s i)
 level-at s sane {φ} {m} level i k l n =
-    let q : shift s i + (i * s .«major_step» + k - i * s .«major_step») ≡ k + shift s i = omega arith in
+    let q : shift s i + (i * s .pace + k - i * s .pace) ≡ k + shift s i = omega arith in
     ap (λ (x : ℕ). getD m x 0) q ∙ level .level (k + shift s i) (omega (arith, shift-le s sane i l))
 
 -- a number that never turns: it ascends, or it descends
@@ -77,11 +77,11 @@ tail-fits : (M f e : ℕ) → f < M → f < e → f + (min e M - 1 - f) < M
 tail-fits M f e in′ past = omega arith
 
 module _ (s : Sweep) (d : Bool) {g₀ : List ℕ} (to : Down s g₀) where
-  place : (i k : ℕ) → byteOf s i k ≡ i * s .«major_step» + k
+  place : (i k : ℕ) → byteOf s i k ≡ i * s .pace + k
   place = side-by-side s (to .next)
 
   parted : RowsApart (startAt s d) (s .minors) (s .majors)
-  parted = parted-order d (s .«major_step») (s .minors) (s .majors) (to .apart)
+  parted = parted-order d (s .pace) (s .minors) (s .majors) (to .apart)
 
   steady : Steady (shifts s d)
   steady = order-steady s d (to .sane .moves)
@@ -90,7 +90,7 @@ module _ (s : Sweep) (d : Bool) {g₀ : List ℕ} (to : Down s g₀) where
   pixel-at f t k n =
       lane-pixel (shift s) (byteOf s) (s .minors) f (rowAt d (s .majors) t) k n ∙ ap (λ (x : ℕ). getD f x 0) (place (rowAt d (s .majors) t) k)
 
-  pixel-kept : (f g : List ℕ) (i u : ℕ) → ((k : ℕ) → k < s .minors → getD f (i * s .«major_step» + k) 0 ≡ getD g (i * s .«major_step» + k) 0) → pixelOf s f i u ≡ pixelOf s g i u
+  pixel-kept : (f g : List ℕ) (i u : ℕ) → ((k : ℕ) → k < s .minors → getD f (i * s .pace + k) 0 ≡ getD g (i * s .pace + k) 0) → pixelOf s f i u ≡ pixelOf s g i u
   pixel-kept f g i u kept =
       ⊎-elim
       (λ left. lane-left (shift s) (byteOf s) (s .minors) f u i left ∙ sym (lane-left (shift s) (byteOf s) (s .minors) g u i left))
@@ -109,12 +109,12 @@ module _ (s : Sweep) (d : Bool) {g₀ : List ℕ} (to : Down s g₀) where
   -- ---- levels
 
   module _ {f m m₁ m₂ m₃ : List ℕ} (i : ℕ) where
-    pub levels-met : Fades d 0 (shift s i) m m₁ → MeetsBy d f (i * s .«major_step») (s .minors) (shift s i) m₁ m₂
+    pub levels-met : Fades d 0 (shift s i) m m₁ → MeetsBy d f (i * s .pace) (s .minors) (shift s i) m₁ m₂
         → Fades d (shift s i + s .minors) (s .top - shift s i) m₂ m₃
-        → lines s ≤ length m → shift s i ≤ s .top → i * s .«major_step» + s .minors ≤ length f → LevelsAre s (λ (u : ℕ). op d (getD m u 0) (pixelOf s f i u)) m₃
+        → lines s ≤ length m → shift s i ≤ s .top → i * s .pace + s .minors ≤ length f → LevelsAre s (λ (u : ℕ). op d (getD m u 0) (pixelOf s f i u)) m₃
     levels-met before row behind′ room top there =
         let p : Filled m m₁ 0 (0 + shift s i) (λ (x : ℕ). op d (getD m x 0) 0) = before .done (omega arith) in
-        let q : Filled m₁ m₂ (shift s i) (shift s i + s .minors) (λ (x : ℕ). op d (getD m₁ x 0) (straight (i * s .«major_step») f (x - shift s i))) =
+        let q : Filled m₁ m₂ (shift s i) (shift s i + s .minors) (λ (x : ℕ). op d (getD m₁ x 0) (straight (i * s .pace) f (x - shift s i))) =
         row .done there (omega (arith, p .same)) in
         let z : Filled m₂ m₃ (shift s i + s .minors) (shift s i + s .minors + (s .top - shift s i)) (λ (x : ℕ). op d (getD m₂ x 0) 0) =
         behind′ .done (omega (arith, p .same, q .same)) in

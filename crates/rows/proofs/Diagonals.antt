@@ -214,16 +214,16 @@ swapped-le false M N L A g i k in′ n some = risen M N L A g i k in′ n some
 -- ---- the swapped sweep
 
 module _ (s : Sweep) (flat : s .rise ≡ s .run) where
-  pub swapped-sane : Sane s → 1 ≤ s .«major_step» → Sane (swapOf s)
+  pub swapped-sane : Sane s → 1 ≤ s .pace → Sane (swapOf s)
   swapped-sane sane step =
       record {
         some = sane .wide;
         majors = sane .minors;
         wide = sane .some;
         minors = sane .majors;
-        «major_step» = sane .«minor_step»;
+        pace = sane .sidestep;
         step = step;
-        «minor_step» = sane .«major_step»;
+        sidestep = sane .pace;
         slow = sane .slow;
         moves = sane .moves;
         run = sane .run;
@@ -254,20 +254,20 @@ module _ (s : Sweep) (flat : s .rise ≡ s .run) where
       down =
           ap (λ (v : ℕ). lane (shift (swapOf s)) (byteOf (swapOf s)) M N g (i + v)) (diag-shift (swapOf s) sane′ flat k)
           ∙ lane-as (shift (swapOf s)) (diag f N) (byteOf (swapOf s)) (λ (j l : ℕ). byteOf s l j) M N g (i + diag f N k) (diag-shift (swapOf s) sane′ flat)
-          (λ j l. add-comm (j * s .«minor_step») (l * s .«major_step»))
+          (λ j l. add-comm (j * s .sidestep) (l * s .pace))
 
       along : lane (shift s) (byteOf s) N M g (k + shift s i) ≡ lane (diag f M) (byteOf s) N M g (k + diag f M i)
       along =
           ap (λ (v : ℕ). lane (shift s) (byteOf s) N M g (k + v)) (diag-shift s sane flat i)
           ∙ lane-as (shift s) (diag f M) (byteOf s) (byteOf s) N M g (k + diag f M i) (diag-shift s sane flat) (λ j l. refl)
 
-  pub swapped-opens : {b a : List ℕ} (L : ℕ) → Sane s → 1 ≤ s .«major_step» → 0 < L → OpensLines (swapOf s) L b a → OpensLines s L b a
+  pub swapped-opens : {b a : List ℕ} (L : ℕ) → Sane s → 1 ≤ s .pace → 0 < L → OpensLines (swapOf s) L b a → OpensLines s L b a
   swapped-opens {b} {a} L sane step some o =
       record {
         same = o .same;
         within = λ i k l n.
-            ap (λ (x : ℕ). getD a x 0) (add-comm (i * s .«major_step») (k * s .«minor_step»))
+            ap (λ (x : ℕ). getD a x 0) (add-comm (i * s .pace) (k * s .sidestep))
             ∙ o .within k i n l
             ∙ swapped-at sane (swapped-sane sane step) b L i k some l n;
-        other = λ x none. o .other x (λ k i n l e. none i k l n (e ∙ add-comm (k * s .«minor_step») (i * s .«major_step»)));
+        other = λ x none. o .other x (λ k i n l e. none i k l n (e ∙ add-comm (k * s .sidestep) (i * s .pace)));
       }

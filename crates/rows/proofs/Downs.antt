@@ -28,7 +28,7 @@ module _ {sh : Shape} {d : Direction} (a : Accepted sh d) (falls : goesDown d �
   unfolding sweep.sweepOf
   slope-one flat = rw flat (le-antisymm (leb-true (natAbs (d .q)) (natAbs (d .p)) flat) (leb-true (natAbs (d .p)) (natAbs (d .q)) falls))
 
-  side-one : shallow d ≡ true → 1 ≤ sweepOf sh d .«major_step»
+  side-one : shallow d ≡ true → 1 ≤ sweepOf sh d .pace
   unfolding sweep.sweepOf
   side-one flat = rw flat (omega arith)
 

@@ -57,9 +57,9 @@ clipped-in : (t L M : ℕ) → t < M → 1 ≤ L → t + (min (t + L) M - 1 - t)
 clipped-in t L M in′ some = omega arith
 
 module _ (s : Sweep) (L : ℕ) (some : 1 ≤ L) where
-  eroded-rows : {b g g₁ : List ℕ} → RowsApart (rowsBy (s .«major_step»)) (s .minors) (s .majors) → WindowsMet s true L 0 (s .majors) b g
-      → RowsAre (rowsBy (s .«major_step»)) (s .minors) (s .majors + 1 - L) (s .majors) (λ (i k : ℕ). 0) g g₁ → L ≤ s .majors
-      → RowsAre (rowsBy (s .«major_step»)) (s .minors) 0 (s .majors) (λ (i k : ℕ). erodedTo (lineIn s b (k + shift s i)) L i) b g₁
+  eroded-rows : {b g g₁ : List ℕ} → RowsApart (rowsBy (s .pace)) (s .minors) (s .majors) → WindowsMet s true L 0 (s .majors) b g
+      → RowsAre (rowsBy (s .pace)) (s .minors) (s .majors + 1 - L) (s .majors) (λ (i k : ℕ). 0) g g₁ → L ≤ s .majors
+      → RowsAre (rowsBy (s .pace)) (s .minors) 0 (s .majors) (λ (i k : ℕ). erodedTo (lineIn s b (k + shift s i)) L i) b g₁
   unfolding rows.rowAt
   eroded-rows {b} parted e c short =
       record {
@@ -79,14 +79,14 @@ module _ (s : Sweep) (L : ℕ) (some : 1 ≤ L) where
       }
 
   dilated-rows : {b g : List ℕ} → WindowsMet s false L 0 (s .majors) b g
-      → RowsAre (rowsBy (s .«major_step»)) (s .minors) 0 (s .majors) (λ (i k : ℕ). dilatedAt (lineIn s b (k + shift s i)) L i) b g
+      → RowsAre (rowsBy (s .pace)) (s .minors) 0 (s .majors) (λ (i k : ℕ). dilatedAt (lineIn s b (k + shift s i)) L i) b g
   unfolding rows.rowAt
   dilated-rows {b} {g} e =
       record {
         same = e .same;
         within = λ i k lo in′ n.
             let back : s .majors - 1 - (s .majors - 1 - i) ≡ i = omega arith in
-            subst (λ (j : ℕ). getD g (j * s .«major_step» + k) 0 ≡ dilatedAt (lineIn s b (k + shift s j)) L j) back
+            subst (λ (j : ℕ). getD g (j * s .pace + k) 0 ≡ dilatedAt (lineIn s b (k + shift s j)) L j) back
             (e .within (s .majors - 1 - i) k zero-le (omega arith) n
             ∙ whole (s .majors - 1 - i) (k + shift s (s .majors - 1 - (s .majors - 1 - i))) (omega arith));
         other = λ x none. e .other x (λ t k l h n. none (s .majors - 1 - t) k zero-le (omega arith) n);
@@ -102,9 +102,9 @@ module _ (s : Sweep) (L : ℕ) (some : 1 ≤ L) where
           (λ fits. ap (λ (v : ℕ). dilatedAt (lineIn s b u) v (s .majors - 1 - t)) (clipped t L (s .majors) fits some))
           (less-or-not (s .majors) (t + L))
 
-  opened-rows : (place : (i k : ℕ) → byteOf s i k ≡ i * s .«major_step» + k) {f g h : List ℕ}
-      → RowsAre (rowsBy (s .«major_step»)) (s .minors) 0 (s .majors) (λ (i k : ℕ). erodedTo (lineIn s f (k + shift s i)) L i) f g
-      → RowsAre (rowsBy (s .«major_step»)) (s .minors) 0 (s .majors) (λ (i k : ℕ). dilatedAt (lineIn s g (k + shift s i)) L i) g h → OpensLines s L f h
+  opened-rows : (place : (i k : ℕ) → byteOf s i k ≡ i * s .pace + k) {f g h : List ℕ}
+      → RowsAre (rowsBy (s .pace)) (s .minors) 0 (s .majors) (λ (i k : ℕ). erodedTo (lineIn s f (k + shift s i)) L i) f g
+      → RowsAre (rowsBy (s .pace)) (s .minors) 0 (s .majors) (λ (i k : ℕ). dilatedAt (lineIn s g (k + shift s i)) L i) g h → OpensLines s L f h
   unfolding passes.reopened
   opened-rows place {f} {g} {h} e d =
       let eroded = rows-pixels e (byteOf s) place in
@@ -127,11 +127,11 @@ module _ (s : Sweep) (L : ℕ) (some : 1 ≤ L) where
           ∙ ap (table (erodedTo (lineIn s f u) L)) (sym (long s f u))
 
   pub windows-opened : {f g g₁ h : List ℕ} → Down s f → WindowsMet s true L 0 (s .majors) f g
-      → RowsAre (rowsBy (s .«major_step»)) (s .minors) (s .majors + 1 - L) (s .majors) (λ (i k : ℕ). 0) g g₁ → WindowsMet s false L 0 (s .majors) g₁ h → L ≤ s .majors
+      → RowsAre (rowsBy (s .pace)) (s .minors) (s .majors + 1 - L) (s .majors) (λ (i k : ℕ). 0) g g₁ → WindowsMet s false L 0 (s .majors) g₁ h → L ≤ s .majors
       → OpensLines s L f h
   windows-opened to erosion clear dilation short =
-      opened-rows (side-by-side s (to .next)) (eroded-rows (parted-rows (s .«major_step») (s .minors) (s .majors) (to .apart)) erosion clear short) (dilated-rows dilation)
+      opened-rows (side-by-side s (to .next)) (eroded-rows (parted-rows (s .pace) (s .minors) (s .majors) (to .apart)) erosion clear short) (dilated-rows dilation)
 
-  pub windows-short : {f h : List ℕ} → Down s f → RowsAre (rowsBy (s .«major_step»)) (s .minors) 0 (s .majors) (λ (i k : ℕ). 0) f h → s .majors < L → OpensLines s L f h
+  pub windows-short : {f h : List ℕ} → Down s f → RowsAre (rowsBy (s .pace)) (s .minors) 0 (s .majors) (λ (i k : ℕ). 0) f h → s .majors < L → OpensLines s L f h
   windows-short {f} to clear short =
       opened-none (shift s) (byteOf s) (s .minors) (s .majors) f L short (rows-pixels clear (byteOf s) (side-by-side s (to .next)))

@@ -41,7 +41,7 @@ use Rattle.rows.proofs.Growths.{bool-cases, paired-cases, paired-dark}
 -- ---- rows in the order in which the lines cross them
 
 pub slant-room : {s : Sweep} {g : List ℕ} → Slanted s g → (forth : Bool) (t : ℕ) → t < s .minors → rowStart s forth t + s .majors ≤ length g
-slant-room {s} {g} slanted forth t in′ = row-room (s .«minor_step») (s .majors) (s .minors) (length g) (rowAt forth (s .minors) t) (row-less forth (s .minors) t in′) (slanted .room)
+slant-room {s} {g} slanted forth t in′ = row-room (s .sidestep) (s .majors) (s .minors) (length g) (rowAt forth (s .minors) t) (row-less forth (s .minors) t in′) (slanted .room)
 
 module _ (forth : Bool) (N S : ℕ) (g : List ℕ) where
   past-in : (t j d : ℕ) → t + d < N → pixelPast forth N S g t j d ≡ getD g (rowAt forth N (t + d) * S + j) 0
@@ -53,12 +53,12 @@ module _ (forth : Bool) (N S : ℕ) (g : List ℕ) where
   past-out t j d out = rw (le-ltb (t + d) N out)
 
 -- the pixels of a row stand side by side
-row-by-row : (s : Sweep) → s .«major_step» ≡ 1 → (i k : ℕ) → byteOf s i k ≡ k * s .«minor_step» + i
-row-by-row s flat i k = let e : i * s .«major_step» ≡ i = ap (λ (x : ℕ). i * x) flat ∙ mul-one i in omega (arith, e)
+row-by-row : (s : Sweep) → s .pace ≡ 1 → (i k : ℕ) → byteOf s i k ≡ k * s .sidestep + i
+row-by-row s flat i k = let e : i * s .pace ≡ i = ap (λ (x : ℕ). i * x) flat ∙ mul-one i in omega (arith, e)
 
-module _ (s : Sweep) (flat : s .«major_step» ≡ 1) where
+module _ (s : Sweep) (flat : s .pace ≡ 1) where
   row-byte : (forth : Bool) (i k : ℕ) → k < s .minors → byteOf s i k ≡ rowStart s forth (rowAt forth (s .minors) k) + i
-  row-byte forth i k n = row-by-row s flat i k ∙ ap (λ (x : ℕ). x + i) (ap (λ (t : ℕ). t * s .«minor_step») (sym (row-twice forth (s .minors) k n)))
+  row-byte forth i k n = row-by-row s flat i k ∙ ap (λ (x : ℕ). x + i) (ap (λ (t : ℕ). t * s .sidestep) (sym (row-twice forth (s .minors) k n)))
 
   row-dark : (forth : Bool) (light : ℕ) (g : List ℕ) → Dark s light g → DarkPast s forth 0 light g
   row-dark forth light g dark u x l n from in′ =
@@ -137,7 +137,7 @@ module _ (darker : Bool) (s : Sweep) (forth : Bool) (m : List ℕ) (t here there
       met-as (λ (f : List ℕ) (j : ℕ). 0) (fade .done fits)
       (λ j.
       sym
-      (past-out forth (s .minors) (s .«minor_step») g t (there + j) (rowsOn d m j)
+      (past-out forth (s .minors) (s .sidestep) g t (there + j) (rowsOn d m j)
       (bool-cases (λ (b : Bool). s .minors ≤ t + cond b d (d + 1)) (eqb (getD m j 0) 0) (λ q. gone) (λ q. omega arith))))
 
   module _ {near : ℕ} (first : near ≡ rowStart s forth (t + d) + there) where
@@ -148,8 +148,8 @@ module _ (darker : Bool) (s : Sweep) (forth : Bool) (m : List ℕ) (t here there
         met-as (straight near) f
         (λ j.
         ap (λ (y : ℕ). getD g y 0) (omega (arith, first))
-        ∙ sym (past-in forth (s .minors) (s .«minor_step») g t (there + j) d in′)
-        ∙ ap (pixelPast forth (s .minors) (s .«minor_step») g t (there + j)) (sym (unmarked d m j none)))
+        ∙ sym (past-in forth (s .minors) (s .sidestep) g t (there + j) d in′)
+        ∙ ap (pixelPast forth (s .minors) (s .sidestep) g t (there + j)) (sym (unmarked d m j none)))
 
     pub met-near : Filled g g′ at (at + n) (met (op darker) (nearOnly m near) at g) → t + d < s .minors → s .minors ≤ t + (d + 1)
         → Filled g g′ (rowStart s forth t + here) (rowStart s forth t + here + n) (met (op darker) (pixelBy s forth m t there d) (rowStart s forth t + here) g)
@@ -157,10 +157,10 @@ module _ (darker : Bool) (s : Sweep) (forth : Bool) (m : List ℕ) (t here there
         met-as (nearOnly m near) f
         (λ j.
         bool-cases
-        (λ (b : Bool). cond b (getD g (near + j) 0) 0 ≡ pixelPast forth (s .minors) (s .«minor_step») g t (there + j) (cond b d (d + 1)))
+        (λ (b : Bool). cond b (getD g (near + j) 0) 0 ≡ pixelPast forth (s .minors) (s .sidestep) g t (there + j) (cond b d (d + 1)))
         (eqb (getD m j 0) 0)
-        (λ q. ap (λ (y : ℕ). getD g y 0) (omega (arith, first)) ∙ sym (past-in forth (s .minors) (s .«minor_step») g t (there + j) d in′))
-        (λ q. sym (past-out forth (s .minors) (s .«minor_step») g t (there + j) (d + 1) last)))
+        (λ q. ap (λ (y : ℕ). getD g y 0) (omega (arith, first)) ∙ sym (past-in forth (s .minors) (s .sidestep) g t (there + j) d in′))
+        (λ q. sym (past-out forth (s .minors) (s .sidestep) g t (there + j) (d + 1) last)))
 
     pub met-far : {far : ℕ} → far ≡ rowStart s forth (t + (d + 1)) + there → Filled g g′ at (at + n) (met (op darker) (bent m near far) at g) → t + (d + 1) < s .minors
         → Filled g g′ (rowStart s forth t + here) (rowStart s forth t + here + n) (met (op darker) (pixelBy s forth m t there d) (rowStart s forth t + here) g)
@@ -169,10 +169,10 @@ module _ (darker : Bool) (s : Sweep) (forth : Bool) (m : List ℕ) (t here there
         met-as (bent m near far) f
         (λ j.
         bool-cases
-        (λ (b : Bool). cond b (getD g (near + j) 0) (getD g (far + j) 0) ≡ pixelPast forth (s .minors) (s .«minor_step») g t (there + j) (cond b d (d + 1)))
+        (λ (b : Bool). cond b (getD g (near + j) 0) (getD g (far + j) 0) ≡ pixelPast forth (s .minors) (s .sidestep) g t (there + j) (cond b d (d + 1)))
         (eqb (getD m j 0) 0)
-        (λ q. ap (λ (y : ℕ). getD g y 0) (omega (arith, first)) ∙ sym (past-in forth (s .minors) (s .«minor_step») g t (there + j) d (omega arith)))
-        (λ q. ap (λ (y : ℕ). getD g y 0) (omega (arith, second)) ∙ sym (past-in forth (s .minors) (s .«minor_step») g t (there + j) (d + 1) in′)))
+        (λ q. ap (λ (y : ℕ). getD g y 0) (omega (arith, first)) ∙ sym (past-in forth (s .minors) (s .sidestep) g t (there + j) d (omega arith)))
+        (λ q. ap (λ (y : ℕ). getD g y 0) (omega (arith, second)) ∙ sym (past-in forth (s .minors) (s .sidestep) g t (there + j) (d + 1) in′)))
 
 -- ---- one row
 
@@ -201,9 +201,9 @@ module _ (s : Sweep) (forth : Bool) (m : List ℕ) (here there d : ℕ) where
       (λ from in′.
       ⊎-elim
       (λ q.
-      past-in forth (s .minors) (s .«minor_step») g t (there + (x - here)) (rowsOn d m (x - here)) q
+      past-in forth (s .minors) (s .sidestep) g t (there + (x - here)) (rowsOn d m (x - here)) q
       ∙ dark (t + rowsOn d m (x - here)) (there + (x - here)) (omega arith) q past in′)
-      (past-out forth (s .minors) (s .«minor_step») g t (there + (x - here)) (rowsOn d m (x - here)))
+      (past-out forth (s .minors) (s .sidestep) g t (there + (x - here)) (rowsOn d m (x - here)))
       (less-or-not (t + rowsOn d m (x - here)) (s .minors)))
       refl
 
@@ -265,14 +265,14 @@ module _ {darker : Bool} (s : Sweep) (forth : Bool) (m : List ℕ) (here there d
 
 module _ (s : Sweep) (forth : Bool) (m : List ℕ) (here there d : ℕ) {b a : List ℕ} (parted : RowsApart (rowStart s forth) (s .majors) (s .minors)) where
   past-kept : {F : ℕ → ℕ → ℕ} {t : ℕ} → RowsAre (rowStart s forth) (s .majors) 0 t F b a → t < s .minors → (j c : ℕ) → j < s .majors
-      → pixelPast forth (s .minors) (s .«minor_step») a t j c ≡ pixelPast forth (s .minors) (s .«minor_step») b t j c
+      → pixelPast forth (s .minors) (s .sidestep) a t j c ≡ pixelPast forth (s .minors) (s .sidestep) b t j c
   past-kept {F} {t} done h j c in′ =
       ⊎-elim
       (λ q.
-      past-in forth (s .minors) (s .«minor_step») a t j c q
+      past-in forth (s .minors) (s .sidestep) a t j c q
       ∙ row-kept parted done (omega arith) (t + c) j q in′ (inr (omega arith))
-      ∙ sym (past-in forth (s .minors) (s .«minor_step») b t j c q))
-      (λ q. past-out forth (s .minors) (s .«minor_step») a t j c q ∙ sym (past-out forth (s .minors) (s .«minor_step») b t j c q))
+      ∙ sym (past-in forth (s .minors) (s .sidestep) b t j c q))
+      (λ q. past-out forth (s .minors) (s .sidestep) a t j c q ∙ sym (past-out forth (s .minors) (s .sidestep) b t j c q))
       (less-or-not (t + c) (s .minors))
 
   pub slants-more : (darker : Bool) {a′ : List ℕ} (t : ℕ) → RowsAre (rowStart s forth) (s .majors) 0 t (metAt darker s forth m here there d b) b a
@@ -324,11 +324,11 @@ module _ (N S : ℕ) (g : List ℕ) (h : ℕ → ℕ) (A : ℕ → ℕ → ℕ) 
       (less-or-not (N - 1 - k + c) N)
 
 -- a frame whose rows are all 0
-pub cleared-lines : (s : Sweep) → s .«major_step» ≡ 1 → {b a : List ℕ} → RowsAre (rowsBy (s .«minor_step»)) (s .majors) 0 (s .minors) (λ (i k : ℕ). 0) b a
+pub cleared-lines : (s : Sweep) → s .pace ≡ 1 → {b a : List ℕ} → RowsAre (rowsBy (s .sidestep)) (s .majors) 0 (s .minors) (λ (i k : ℕ). 0) b a
     → PixelsAre (byteOf s) (s .majors) (s .minors) (λ (i k : ℕ). 0) b a
 cleared-lines s flat done = columns-pixels done (byteOf s) (λ (k : ℕ). k) (λ k h. h) (λ t h. refl) (λ i k h. row-by-row s flat i k)
 
-module _ (s : Sweep) (sane : Sane s) (flat : s .«major_step» ≡ 1) (b : List ℕ) where
+module _ (s : Sweep) (sane : Sane s) (flat : s .pace ≡ 1) (b : List ℕ) where
   -- a line that goes c rows aside between columns i and j: the pixel that it goes on to, and that which it comes from
   module _ (i j c : ℕ) (aside : r (s .run) (s .rise) j ≡ r (s .run) (s .rise) i + c) (in′ : j < s .majors) where
     falls : s .falling ≡ true → shift s j ≡ shift s i + c
@@ -339,16 +339,16 @@ module _ (s : Sweep) (sane : Sane s) (flat : s .«major_step» ≡ 1) (b : List 
         omega (arith, shift-rising s f i, shift-rising s f j, aside, sane .top, r-up (s .run) (s .rise) j (s .majors - 1) (sane .moves) (omega arith))
 
     goes-on : (f : Bool) → s .falling ≡ f → (k : ℕ) → k < s .minors
-        → pixelPast (isForth true f) (s .minors) (s .«minor_step») b (rowAt (isForth true f) (s .minors) k) j c ≡ laneAt (shift s) (byteOf s) (s .minors) b (k + shift s i) j
+        → pixelPast (isForth true f) (s .minors) (s .sidestep) b (rowAt (isForth true f) (s .minors) k) j c ≡ laneAt (shift s) (byteOf s) (s .minors) b (k + shift s i) j
     unfolding rows.rowAt
-    goes-on true f k l = lane-up (s .minors) (s .«minor_step») b (shift s) (byteOf s) (row-by-row s flat) k i j c l (falls f)
-    goes-on false f k l = lane-down (s .minors) (s .«minor_step») b (shift s) (byteOf s) (row-by-row s flat) k i j c l (rises f)
+    goes-on true f k l = lane-up (s .minors) (s .sidestep) b (shift s) (byteOf s) (row-by-row s flat) k i j c l (falls f)
+    goes-on false f k l = lane-down (s .minors) (s .sidestep) b (shift s) (byteOf s) (row-by-row s flat) k i j c l (rises f)
 
     comes-from : (f : Bool) → s .falling ≡ f → (k : ℕ) → k < s .minors
-        → pixelPast (isForth false f) (s .minors) (s .«minor_step») b (rowAt (isForth false f) (s .minors) k) i c ≡ laneAt (shift s) (byteOf s) (s .minors) b (k + shift s j) i
+        → pixelPast (isForth false f) (s .minors) (s .sidestep) b (rowAt (isForth false f) (s .minors) k) i c ≡ laneAt (shift s) (byteOf s) (s .minors) b (k + shift s j) i
     unfolding rows.rowAt
-    comes-from true f k l = lane-down (s .minors) (s .«minor_step») b (shift s) (byteOf s) (row-by-row s flat) k j i c l (falls f)
-    comes-from false f k l = lane-up (s .minors) (s .«minor_step») b (shift s) (byteOf s) (row-by-row s flat) k j i c l (rises f)
+    comes-from true f k l = lane-down (s .minors) (s .sidestep) b (shift s) (byteOf s) (row-by-row s flat) k j i c l (falls f)
+    comes-from false f k l = lane-up (s .minors) (s .sidestep) b (shift s) (byteOf s) (row-by-row s flat) k j i c l (rises f)
 
   module _ (m : List ℕ) (e d : ℕ) where
     met-line : (darker : Bool) (n : ℕ) → Bends (s .run) (s .rise) e d n m → (i k : ℕ) → i < s .majors → k < s .minors → cond darker 0 e ≤ i

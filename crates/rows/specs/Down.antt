@@ -28,9 +28,9 @@ use Rattle.rows.specs.Rows.{byteOf, laneAt, rowAt, RowsAre}
 
 pub record Down (s : Sweep) (g : List ℕ) : Type 0 where
   pub sane : Sane s
-  pub next : s .«minor_step» ≡ 1
-  pub apart : s .minors ≤ s .«major_step»
-  pub room : (s .majors - 1) * s .«major_step» + s .minors ≤ length g
+  pub next : s .sidestep ≡ 1
+  pub apart : s .minors ≤ s .pace
+  pub room : (s .majors - 1) * s .pace + s .minors ≤ length g
 
 abbrev pub pixelOf : Sweep → List ℕ → ℕ → ℕ → ℕ
 pixelOf s f i u = laneAt (shift s) (byteOf s) (s .minors) f u i
@@ -44,7 +44,7 @@ pub record LevelsAre (s : Sweep) (φ : ℕ → ℕ) (m : List ℕ) : Type 0 wher
 -- ---- rows in the order of a pass
 
 abbrev pub startAt : Sweep → Bool → ℕ → ℕ
-startAt s darker t = rowAt darker (s .majors) t * s .«major_step»
+startAt s darker t = rowAt darker (s .majors) t * s .pace
 
 abbrev pub shifts : Sweep → Bool → ℕ → ℕ
 shifts s darker t = shift s (rowAt darker (s .majors) t)
@@ -74,8 +74,8 @@ swapOf s =
     record {
       majors = s .minors;
       minors = s .majors;
-      «major_step» = s .«minor_step»;
-      «minor_step» = s .«major_step»;
+      pace = s .sidestep;
+      sidestep = s .pace;
       run = s .run;
       rise = s .rise;
       falling = s .falling;

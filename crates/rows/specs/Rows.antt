@@ -28,7 +28,7 @@ use Rattle.frame.specs.Shape.{isFrame, needed}
 use Rattle.frame.specs.Sweep.{shift, sweepOf}
 
 abbrev pub byteOf : Sweep → ℕ → ℕ → ℕ
-byteOf s i k = i * s .«major_step» + k * s .«minor_step»
+byteOf s i k = i * s .pace + k * s .sidestep
 
 unfoldable pub laneAt : (ℕ → ℕ) → (ℕ → ℕ → ℕ) → ℕ → List ℕ → ℕ → ℕ → ℕ
 laneAt h A N g u i = cond (leb (h i) u && ltb u (h i + N)) (getD g (A i (u - h i)) 0) 0

@@ -39,12 +39,12 @@ use Rattle.rows.specs.Rows.{byteOf, laneAt, lane, PixelsAre, rowAt}
 
 pub record Slanted (s : Sweep) (g : List ℕ) : Type 0 where
   pub sane : Sane s
-  pub next : s .«major_step» ≡ 1
-  pub apart : s .majors ≤ s .«minor_step»
-  pub room : (s .minors - 1) * s .«minor_step» + s .majors ≤ length g
+  pub next : s .pace ≡ 1
+  pub apart : s .majors ≤ s .sidestep
+  pub room : (s .minors - 1) * s .sidestep + s .majors ≤ length g
 
 abbrev pub rowStart : Sweep → Bool → ℕ → ℕ
-rowStart s forth t = rowAt forth (s .minors) t * s .«minor_step»
+rowStart s forth t = rowAt forth (s .minors) t * s .sidestep
 
 unfoldable pub pixelPast : Bool → ℕ → ℕ → List ℕ → ℕ → ℕ → ℕ → ℕ
 pixelPast forth N S g t j d = cond (ltb (t + d) N) (getD g (rowAt forth N (t + d) * S + j) 0) 0
@@ -76,7 +76,7 @@ abbrev pub nearOnly : List ℕ → ℕ → List ℕ → ℕ → ℕ
 nearOnly m near g j = cond (eqb (getD m j 0) 0) (getD g (near + j) 0) 0
 
 abbrev pub pixelBy : Sweep → Bool → List ℕ → ℕ → ℕ → ℕ → List ℕ → ℕ → ℕ
-pixelBy s forth m t there d g j = pixelPast forth (s .minors) (s .«minor_step») g t (there + j) (rowsOn d m j)
+pixelBy s forth m t there d g j = pixelPast forth (s .minors) (s .sidestep) g t (there + j) (rowsOn d m j)
 
 abbrev pub paired : Sweep → ℕ → ℕ → ℕ → Bool
 paired s here there x = leb here x && ltb (there + (x - here)) (s .majors)

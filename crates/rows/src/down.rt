@@ -19,12 +19,12 @@ fn open_lines(buf: &mut [Pixel], s: Sweep, length: usize)
 {
     let rows = s.majors;
     if rows < length {
-        clear_rows(buf, s.major_step, s.minors, 0, rows);
+        clear_rows(buf, s.pace, s.minors, 0, rows);
         return;
     }
     let mut levels: [Pixel; 8192] = [0; 8192];
     meet_windows(buf, s, length, &mut levels, true);
-    clear_rows(buf, s.major_step, s.minors, rows + 1 - length, rows);
+    clear_rows(buf, s.pace, s.minors, rows + 1 - length, rows);
     meet_windows(buf, s, length, &mut levels, false);
 }
 
@@ -36,16 +36,16 @@ fn swapped(s: Sweep) -> Sweep
     let rows = s.minors;
     let columns = s.majors;
     let top = rows - 1;
-    let major_step = s.minor_step;
-    let minor_step = s.major_step;
+    let pace = s.sidestep;
+    let sidestep = s.pace;
     let run = s.run;
     let rise = s.rise;
     let falling = s.falling;
     Sweep {
         majors: rows,
         minors: columns,
-        major_step,
-        minor_step,
+        pace,
+        sidestep,
         run,
         rise,
         falling,

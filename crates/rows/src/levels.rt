@@ -19,7 +19,7 @@ fn meet_levels(buf: &[Pixel], s: Sweep, i: usize, levels: &mut [Pixel], darker: 
     let n = s.minors;
     let a = shift_at(s, i);
     passes::fade(levels, 0, a, darker);
-    passes::meet_by(buf, i * s.major_step, n, levels, a, darker);
+    passes::meet_by(buf, i * s.pace, n, levels, a, darker);
     passes::fade(levels, a + n, s.top - a, darker);
 }
 
@@ -46,14 +46,7 @@ pub(crate) fn take_row(buf: &[Pixel], s: Sweep, t: usize, levels: &mut [Pixel], 
 // Each pixel of row i meets its line's level.
 pub(crate) fn meet_row_by(levels: &[Pixel], s: Sweep, i: usize, buf: &mut [Pixel], darker: bool)
     requires { ⌜ Down s (now buf) × (i < s .majors) × (lines s ≤ length (now levels)) ⌝ }
-    ensures { λ _. ⌜ Filled (now (buf .entry)) (now (buf .exit)) (i * s .«major_step») (i * s .«major_step» + s .minors) (λ (x : ℕ). op darker (getD (now (buf .entry)) x 0) (getD (now (levels .entry)) (shift s i + (x - i * s .«major_step»)) 0)) ⌝ }
+    ensures { λ _. ⌜ Filled (now (buf .entry)) (now (buf .exit)) (i * s .pace) (i * s .pace + s .minors) (λ (x : ℕ). op darker (getD (now (buf .entry)) x 0) (getD (now (levels .entry)) (shift s i + (x - i * s .pace)) 0)) ⌝ }
 {
-    passes::meet_by(
-        levels,
-        shift_at(s, i),
-        s.minors,
-        buf,
-        i * s.major_step,
-        darker,
-    );
+    passes::meet_by(levels, shift_at(s, i), s.minors, buf, i * s.pace, darker);
 }

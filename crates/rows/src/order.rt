@@ -27,7 +27,7 @@ pub(crate) fn meet_next(buf: &mut [Pixel], s: Sweep, t: usize, darker: bool)
 {
     let i = row_at(s.majors, t, darker);
     let j = row_at(s.majors, t + 1, darker);
-    let stride = s.major_step;
+    let stride = s.pace;
     meet_row(
         buf,
         i * stride,

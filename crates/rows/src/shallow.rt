@@ -96,7 +96,7 @@ fn open_along(buf: &mut [Pixel], s: Sweep, length: usize)
     ensures { λ _. ⌜ OpensLines s length (now (buf .entry)) (now (buf .exit)) ⌝ }
 {
     if s.majors < length {
-        clear_rows(buf, s.minor_step, s.majors, 0, s.minors);
+        clear_rows(buf, s.sidestep, s.majors, 0, s.minors);
         return;
     }
     let mut bends: [u8; LONGEST] = [0; LONGEST];

@@ -19,7 +19,7 @@ fn start(s: Sweep, forth: bool, t: usize) -> usize
     requires { ⌜ Sane s × (t < s .minors) ⌝ }
     ensures { λ n. ⌜ n ≡ rowStart s forth t ⌝ }
 {
-    row_at(s.minors, t, forth) * s.minor_step
+    row_at(s.minors, t, forth) * s.sidestep
 }
 
 // The n pixels from `at` on meet those from `near` on, which stand in the last row of the count: a marked one, whose partner would stand one row further, meets 0.

@@ -108,7 +108,7 @@ module _ {b b₁ b₂ : List ℕ} where
 
 -- the bytes of a sweep are those of the frame's pixels, by columns where it is shallow and by rows where it is steep
 module _ {sh : Shape} {F : ℕ → ℕ → ℕ} {b b₁ b₂ : List ℕ} (s : Sweep) (ok : isFrame sh ≡ true) where
-  columns-once : (s .«major_step» ≡ 1) × (s .«minor_step» ≡ sh .stride) × (s .majors ≡ sh .width) × (s .minors ≡ sh .height)
+  columns-once : (s .pace ≡ 1) × (s .sidestep ≡ sh .stride) × (s .majors ≡ sh .width) × (s .minors ≡ sh .height)
       → PixelsAre (byteOf s) (s .majors) (s .minors) F b b₁ → PixelsAre (byteOf s) (s .majors) (s .minors) F b b₂ → b₁ ≡ b₂
   columns-once (major-step, minor-step, majors, minors) p q =
       frames-same sh b₁ b₂ ok (p .same ∙ sym (q .same))
@@ -120,7 +120,7 @@ module _ {sh : Shape} {F : ℕ → ℕ → ℕ} {b b₁ b₂ : List ℕ} (s : Sw
       byte : (x y : ℕ) → byteOf s x y ≡ place sh (at x y)
       byte x y = rw (major-step, minor-step) (omega arith)
 
-  rows-once : (s .«major_step» ≡ sh .stride) × (s .«minor_step» ≡ 1) × (s .majors ≡ sh .height) × (s .minors ≡ sh .width)
+  rows-once : (s .pace ≡ sh .stride) × (s .sidestep ≡ 1) × (s .majors ≡ sh .height) × (s .minors ≡ sh .width)
       → PixelsAre (byteOf s) (s .majors) (s .minors) F b b₁ → PixelsAre (byteOf s) (s .majors) (s .minors) F b b₂ → b₁ ≡ b₂
   rows-once (major-step, minor-step, majors, minors) p q =
       frames-same sh b₁ b₂ ok (p .same ∙ sym (q .same))
@@ -133,12 +133,12 @@ module _ {sh : Shape} {F : ℕ → ℕ → ℕ} {b b₁ b₂ : List ℕ} (s : Sw
       byte y x = rw (major-step, minor-step) (omega arith)
 
 columns : (sh : Shape) (d : Direction) → shallow d ≡ true
-    → (sweepOf sh d .«major_step» ≡ 1) × (sweepOf sh d .«minor_step» ≡ sh .stride) × (sweepOf sh d .majors ≡ sh .width) × (sweepOf sh d .minors ≡ sh .height)
+    → (sweepOf sh d .pace ≡ 1) × (sweepOf sh d .sidestep ≡ sh .stride) × (sweepOf sh d .majors ≡ sh .width) × (sweepOf sh d .minors ≡ sh .height)
 unfolding sweep.sweepOf
 columns sh d e = (rw e, rw e, rw e, rw e)
 
 rows : (sh : Shape) (d : Direction) → shallow d ≡ false
-    → (sweepOf sh d .«major_step» ≡ sh .stride) × (sweepOf sh d .«minor_step» ≡ 1) × (sweepOf sh d .majors ≡ sh .height) × (sweepOf sh d .minors ≡ sh .width)
+    → (sweepOf sh d .pace ≡ sh .stride) × (sweepOf sh d .sidestep ≡ 1) × (sweepOf sh d .majors ≡ sh .height) × (sweepOf sh d .minors ≡ sh .width)
 unfolding sweep.sweepOf
 rows sh d e = (rw e, rw e, rw e, rw e)
 

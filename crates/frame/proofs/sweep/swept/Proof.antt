@@ -53,14 +53,14 @@ known c =
 
 module _ (sh : Shape) (d : Direction) {a b : ℕ} {f : Bool} {t : ℕ} (ea : a ≡ natAbs (d .p)) (eb : b ≡ natAbs (d .q)) (ef : f ≡ opposite d) where
   is-shallow : b ≤ a → t ≡ r a b (sh .width - 1)
-      → record { majors = sh .width; minors = sh .height; «major_step» = 1; «minor_step» = sh .stride; run = a; rise = b; falling = f; top = t } ≡ sweepOf sh d
+      → record { majors = sh .width; minors = sh .height; pace = 1; sidestep = sh .stride; run = a; rise = b; falling = f; top = t } ≡ sweepOf sh d
   unfolding sweepOf
   is-shallow h et =
       let e : shallow d ≡ true = le-leb (natAbs (d .q)) (natAbs (d .p)) (omega arith) in
       rw e (cc)
 
   is-steep : a < b → t ≡ r b a (sh .height - 1)
-      → record { majors = sh .height; minors = sh .width; «major_step» = sh .stride; «minor_step» = 1; run = b; rise = a; falling = f; top = t } ≡ sweepOf sh d
+      → record { majors = sh .height; minors = sh .width; pace = sh .stride; sidestep = 1; run = b; rise = a; falling = f; top = t } ≡ sweepOf sh d
   unfolding sweepOf
   is-steep h et =
       let e : shallow d ≡ false = lt-leb (natAbs (d .q)) (natAbs (d .p)) (omega arith) in

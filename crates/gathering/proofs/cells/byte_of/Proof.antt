@@ -14,19 +14,19 @@ mul-result : tie.Need-mul-result
 mul-result c =
     let a = c .before .args in
     let sane = c .before .pre .0 in
-    omega (arith, small (a .i) (a .s .«major_step») (omega (arith, sane)) (sane .«major_step»))
+    omega (arith, small (a .i) (a .s .pace) (omega (arith, sane)) (sane .pace))
 
 mul-result-2 : tie.Need-mul-result-2
 mul-result-2 c =
     let a = c .before .before .args in
     let sane = c .before .before .pre .0 in
-    omega (arith, small (a .j) (a .s .«minor_step») (omega (arith, sane)) (sane .«minor_step»))
+    omega (arith, small (a .j) (a .s .sidestep) (omega (arith, sane)) (sane .sidestep))
 
 add-result : tie.Need-add-result
 add-result c =
     let a = c .before .before .args in
     let sane = c .before .before .pre .0 in
-    omega (arith, small (a .i) (a .s .«major_step») (omega (arith, sane)) (sane .«major_step»), small (a .j) (a .s .«minor_step») (omega (arith, sane)) (sane .«minor_step»))
+    omega (arith, small (a .i) (a .s .pace) (omega (arith, sane)) (sane .pace), small (a .j) (a .s .sidestep) (omega (arith, sane)) (sane .sidestep))
 
 returns : tie.Need-returns
 returns c = search needs

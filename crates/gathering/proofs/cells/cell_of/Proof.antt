@@ -21,7 +21,7 @@ returns : tie.Need-returns
 unfolding sweep.cell
 returns c =
     let a = c .before .before .args in
-    c .byte-of .ensures ∙ ap (λ (j : ℕ). a .i * a .s .«major_step» + j * a .s .«minor_step») (c .before .minor-of .ensures)
+    c .byte-of .ensures ∙ ap (λ (j : ℕ). a .i * a .s .pace + j * a .s .sidestep) (c .before .minor-of .ensures)
 
 pub cell-of-spec : {M : Type 1} → statement M
 cell-of-spec = tie.close (tie.spec minor-of-requires byte-of-requires returns)

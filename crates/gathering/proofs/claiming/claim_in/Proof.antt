@@ -84,7 +84,7 @@ at-is : (c : tie.After-byte-of2 Inv-loop μ-loop)
 unfolding sweep.cell
 at-is c =
     let a = c .before .before .before .before .before .before .before .before .args in
-    c .before .byte-of .ensures ∙ ap (λ (j : ℕ). (a .t .from + c .before .before .before .before .loop .i) * a .s .«major_step» + j * a .s .«minor_step») (c .before .before .minor-of .ensures)
+    c .before .byte-of .ensures ∙ ap (λ (j : ℕ). (a .t .from + c .before .before .before .before .loop .i) * a .s .pace + j * a .s .sidestep) (c .before .before .minor-of .ensures)
 
 to-is : (c : tie.After-byte-of2 Inv-loop μ-loop)
     → (let a = c .before .before .before .before .before .before .before .before .args in c .byte-of2 .result ≡ cell (a .b) (a .t .index) (a .t .from + c .before .before .before .before .loop .i))
@@ -93,7 +93,7 @@ to-is c =
     let a = c .before .before .before .before .before .before .before .before .args in
     let i = a .t .from + c .before .before .before .before .loop .i in
     let minor = c .before .before .minor-of .ensures ∙ ap (λ (t : ℕ). a .t .index - t) (sym (c .before .before .before .before .before .before .before .before .pre .2 .aside i)) in
-    c .byte-of2 .ensures ∙ ap (λ (j : ℕ). i * a .b .«major_step» + j * a .b .«minor_step») minor
+    c .byte-of2 .ensures ∙ ap (λ (j : ℕ). i * a .b .pace + j * a .b .sidestep) minor
 
 at-reached : (c : tie.After-byte-of2 Inv-loop μ-loop) → c .before .byte-of .result < length (c .before .before .before .before .loop .holders)
 at-reached c =

@@ -118,7 +118,7 @@ returns-4 c =
     let place = c .before .before .before .before .before .before .before .before .before .start .ensures in
     let first = c .before .before .before .before .before .before .before .start2 .ensures in
     let second = c .before .before .before .before .start3 .ensures in
-    let apart = parted-order (args .forth) (s .«minor_step») (s .majors) (s .minors) (pre .0 .apart) (args .t) (args .t + (args .step + 1)) (omega arith) (omega arith) (λ q. omega arith) in
+    let apart = parted-order (args .forth) (s .sidestep) (s .majors) (s .minors) (pre .0 .apart) (args .t) (args .t + (args .step + 1)) (omega arith) (omega arith) (λ q. omega arith) in
     let untouched = far-untouched (c .before .before .before .before .before .before .before .before .before .start .result + args .here) (c .before .before .before .before .before .before .before .start2 .result + args .there) (c .before .before .before .before .start3 .result + args .there) (args .n)
     (⊎-elim (λ q. inl (omega (arith, q, place, second, pre .2, pre .3))) (λ q. inr (omega (arith, q, place, second, pre .2, pre .3))) apart) in
     met-far (args .darker) s (args .forth) (args .bends .now) (args .t) (args .here) (args .there) (args .n) (args .step) (omega (arith, place)) (omega (arith, first)) (omega (arith, second))

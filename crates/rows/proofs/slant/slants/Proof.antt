@@ -24,7 +24,7 @@ slant-requires c κs =
     let s = args .s in
     let pre = c .before .before .before .before .before .pre in
     let slanted = pre .0 in
-    let parted = parted-order (args .forth) (s .«minor_step») (s .majors) (s .minors) (slanted .apart) in
+    let parted = parted-order (args .forth) (s .sidestep) (s .majors) (s .minors) (slanted .apart) in
     let done = c .before .before .loop .inv .1 in (
       record {
         sane = slanted .sane;
@@ -53,7 +53,7 @@ loop-again c =
     let at = c .before .before .before .before .before .loop in (
       omega arith,
       slants-more s (args .forth) (args .bends .now) (args .here) (args .there) (args .step)
-          (parted-order (args .forth) (s .«minor_step») (s .majors) (s .minors) (c .before .before .before .before .before .before .before .before .pre .0 .apart))
+          (parted-order (args .forth) (s .sidestep) (s .majors) (s .minors) (c .before .before .before .before .before .before .before .before .pre .0 .apart))
           (args .darker) (at .t) (at .inv .1) (c .before .before .slant .ensures) (c .before .before .before .before .loop-test .taken),
     )
 

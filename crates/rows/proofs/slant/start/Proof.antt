@@ -16,12 +16,12 @@ mul-result c =
     let s = c .before .before .args .s in
     let sane = c .before .before .pre .0 in
     let row = c .before .row-at in
-    let fits : row .result * s .«minor_step» ≤ longest * widest =
-    mul-le-mul {n₁ = row .result} {m₁ = s .«minor_step»} {n₂ = longest} {m₂ = widest} (omega (arith, row .ensures .1, sane .minors)) (sane .«minor_step») in
+    let fits : row .result * s .sidestep ≤ longest * widest =
+    mul-le-mul {n₁ = row .result} {m₁ = s .sidestep} {n₂ = longest} {m₂ = widest} (omega (arith, row .ensures .1, sane .minors)) (sane .sidestep) in
     omega arith
 
 returns : tie.Need-returns
-returns c = ap (λ (i : ℕ). i * c .before .before .args .s .«minor_step») (c .before .row-at .ensures .0)
+returns c = ap (λ (i : ℕ). i * c .before .before .args .s .sidestep) (c .before .row-at .ensures .0)
 
 pub start-spec : {M : Type 1} → statement M
 start-spec = tie.close (tie.spec row-at-requires mul-result returns)
