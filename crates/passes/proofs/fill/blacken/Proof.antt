@@ -1,5 +1,6 @@
 -- The test, and then the loop.
 use mathlib.Core.Path.{refl}
+use native.Mathlib.Omega.{arith}
 use borrow.Author.Tests.{not-true, not-false}
 use borrow.Author.Needs.{needs}
 use Rattle.passes.proofs.fill.blacken.Statement.{statement}
@@ -12,7 +13,7 @@ returns : tie.Need-returns
 returns c = record { done = λ here. absurd (c .before .is-within .ensures .1 (not-true _ (c .if1 .taken)) here); none = λ unfit. refl }
 
 blacken-row-requires : tie.Need-blacken-row-requires
-blacken-row-requires c κs = c .before .before .is-within .ensures .0 (not-false _ (c .before .if1 .left))
+blacken-row-requires c κs = omega (arith, c .before .before .is-within .ensures .0 (not-false _ (c .before .if1 .left)))
 
 same-length : tie.Need-same-length
 same-length c = search needs
