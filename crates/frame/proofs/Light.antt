@@ -17,7 +17,7 @@ use Rattle.frame.specs.declared.direction.Direction.{Direction}
 use Rattle.frame.specs.declared.shape.Shape.{Shape}
 use Rattle.frame.specs.declared.sweep.Sweep.{Sweep}
 use Rattle.frame.specs.Direction.{shallow}
-use Rattle.frame.specs.Lines.{at, place, gathered, firstLine, lineCount, light}
+use Rattle.frame.specs.Lines.{at, place, gathered, firstLine, lineCount, frameLight}
 use Rattle.frame.specs.Sweep.{sweepOf, shift, lines, hit, cell, cells, valuesAt, Accepted, Sane}
 use Rattle.frame.proofs.Shapes.{accepted-some, sweep-sane}
 use Rattle.frame.proofs.Walks.{hit-at, hit-below, hit-past, values-are}
@@ -50,7 +50,7 @@ module _ (s : Sweep) (f : List ℕ) where
 
 -- the coordinates of a sweep are those of the frame
 pixels-total : (f : List ℕ) (sh : Shape) (d : Direction)
-    → (let s = sweepOf sh d in total (table (λ (i : ℕ). total (table (λ (j : ℕ). getD f (i * s .pace + j * s .sidestep) 0) (s .minors))) (s .majors)) ≡ light f sh)
+    → (let s = sweepOf sh d in total (table (λ (i : ℕ). total (table (λ (j : ℕ). getD f (i * s .pace + j * s .sidestep) 0) (s .minors))) (s .majors)) ≡ frameLight f sh)
 unfolding sweepOf
 pixels-total f sh d = go (shallow d) refl
   where
@@ -58,7 +58,7 @@ pixels-total f sh d = go (shallow d) refl
     same a b e = ap (λ (c : ℕ). getD f c 0) e
 
     go : (t : Bool) → shallow d ≡ t
-        → (let s = sweepOf sh d in total (table (λ (i : ℕ). total (table (λ (j : ℕ). getD f (i * s .pace + j * s .sidestep) 0) (s .minors))) (s .majors)) ≡ light f sh)
+        → (let s = sweepOf sh d in total (table (λ (i : ℕ). total (table (λ (j : ℕ). getD f (i * s .pace + j * s .sidestep) 0) (s .minors))) (s .majors)) ≡ frameLight f sh)
     go true e =
         rw e
         (total-swap (λ i j. true) (λ (i j : ℕ). getD f (i * 1 + j * sh .stride) 0) (sh .width) (sh .height)
@@ -68,7 +68,7 @@ pixels-total f sh d = go (shallow d) refl
         (ap total (table-same _ _ (sh .height) (λ y l. ap total (table-same _ _ (sh .width) (λ x k. same (y * sh .stride + x * 1) (place sh (at x y)) (omega arith))))))
 
 pub lines-light : (f : List ℕ) (sh : Shape) (d : Direction) → Accepted sh d
-    → total (table (λ (u : ℕ). total (gathered f sh d (firstLine sh d +ℤ pos u))) (lineCount sh d)) ≡ light f sh
+    → total (table (λ (u : ℕ). total (gathered f sh d (firstLine sh d +ℤ pos u))) (lineCount sh d)) ≡ frameLight f sh
 lines-light f sh d ok =
     ap (λ (n : ℕ). total (table (λ (u : ℕ). total (gathered f sh d (firstLine sh d +ℤ pos u))) n)) (count-is sh d)
     ∙ ap total (table-same _ _ (lines (sweepOf sh d)) (λ u l. ap total (ap (gathered f sh d) (number sh d u) ∙ values-are sh d (accepted-some ok) u f)))

@@ -10,7 +10,7 @@
 --   gathered f sh d k  the bytes of line k in the frame f, in line order
 --   lineRead f sh d k  what a call reads of line k
 --   pixelsFor d L      the pixels along a line of direction d that a length L stands for
---   light f sh         the total of a frame's pixels
+--   frameLight f sh    the total of a frame's pixels
 --   climb sh d         how far a line moves aside from one end of the frame to the other
 --   firstLine, lineCount    the lowest line number of a frame, and how many lines it has; linesOf has both
 --   lineNumber sh d u  the number of line u, counted from the first
@@ -89,8 +89,8 @@ abbrev pub pixelsFor : Direction → ℕ → ℕ
 pixelsFor d L = L
 
 -- 'the total of the source pixels', row by row
-abbrev pub light : List ℕ → Shape → ℕ
-light f sh = total (table (λ (y : ℕ). total (table (λ (x : ℕ). getD f (place sh (at x y)) 0) (sh .width))) (sh .height))
+abbrev pub frameLight : List ℕ → Shape → ℕ
+frameLight f sh = total (table (λ (y : ℕ). total (table (λ (x : ℕ). getD f (place sh (at x y)) 0) (sh .width))) (sh .height))
 
 -- 'Line numbers are signed and ascend.'
 abbrev pub climb : Shape → Direction → ℕ

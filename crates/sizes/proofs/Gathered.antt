@@ -27,7 +27,7 @@ use Rattle.answer.proofs.Rules.{after-done}
 use Rattle.frame.specs.declared.direction.Direction.{Direction}
 use Rattle.frame.specs.declared.lines.Lines.{Lines}
 use Rattle.frame.specs.declared.shape.Shape.{Shape}
-use Rattle.frame.specs.Lines.{Pixel, pixels, noLine, place, firstLine, lineCount, linesOf, light}
+use Rattle.frame.specs.Lines.{Pixel, pixels, noLine, place, firstLine, lineCount, linesOf, frameLight}
 use Rattle.frame.specs.Sweep.{Accepted}
 use Rattle.frame.proofs.Shapes.{framed}
 use Rattle.frame.proofs.Firsts.{lines-accepted, count-most}
@@ -134,7 +134,7 @@ module _ (f : List ℕ) (sh : Shape) (d : Direction) (n : ℕ) where
 
 -- ---- the light of a frame
 
-pub frame-total : (f : List ℕ) (sh : Shape) (d : Direction) (K : ℕ) → Accepted sh d → total (frameSums f sh d K) ≡ light f sh
+pub frame-total : (f : List ℕ) (sh : Shape) (d : Direction) (K : ℕ) → Accepted sh d → total (frameSums f sh d K) ≡ frameLight f sh
 frame-total f sh d K ok =
     let sum : ℕ → ℕ → ℕ = λ L u. sumFor (lineAt f sh d u) L in
     sums-total (frameSum f sh d) (λ i. total-mono (sum (suc i)) (sum (suc (suc i))) (lineCount sh d) (λ u l. sum-falls (lineAt f sh d u) i)) K

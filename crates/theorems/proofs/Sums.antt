@@ -25,7 +25,7 @@ use Rattle.answer.proofs.Rules.{done-kept, after-done}
 use Rattle.frame.specs.declared.direction.Direction.{Direction}
 use Rattle.frame.specs.declared.shape.Shape.{Shape}
 use Rattle.frame.specs.Direction.{numberedOf}
-use Rattle.frame.specs.Lines.{light, firstLine, lineCount}
+use Rattle.frame.specs.Lines.{frameLight, firstLine, lineCount}
 use Rattle.frame.specs.Sweep.{Accepted}
 use Rattle.frame.proofs.Directions.{numbered-accepted}
 use Rattle.frame.proofs.Light.{lines-light}
@@ -73,12 +73,12 @@ module _ {f : List ℕ} {sh : Shape} {d : Direction} {sums sums′ t t′ : List
   pub frame-rest : getD sums′ (length sums - 1) 0 ≡ frameSum f sh d (suc (length sums - 1))
   frame-rest = ap (λ (l : List ℕ). getD l (length sums - 1) 0) frame-filled ∙ sums-rest (frameSum f sh d) (length sums - 1)
 
-  pub frame-whole : total sums′ ≡ light f sh
+  pub frame-whole : total sums′ ≡ frameLight f sh
   frame-whole = ap total frame-filled ∙ frame-total f sh d (length sums - 1) (frame-fits sh d (length sums) (length f) (length t) (p .answers) z .0 .ok)
 
 -- 'The sum for a length is the total of the opened pixels.': of a frame, those that `open_frame` leaves for that direction and length
 pub frame-sum-opened : {f : List ℕ} {sh : Shape} {d : Direction} {L : ℕ} {g g′ t t′ : List ℕ} {a : Answer} → OpensFrame f sh d L g g′ t t′ a → a .number ≡ 0
-    → frameSum f sh d L ≡ light g′ sh
+    → frameSum f sh d L ≡ frameLight g′ sh
 frame-sum-opened {f} {sh} {d} {L} {g} {g′} {t} p z =
     sym (ap total (table-same _ _ (lineCount sh d) (λ u l. ap total (frame-lines p z (firstLine sh d +ℤ pos u)))))
     ∙ lines-light g′ sh d (open-ready sh L (length f) (length g) (length t) d (p .answers) z .ok)
@@ -98,7 +98,7 @@ module _ {f : List ℕ} {sh : Shape} {t t′ : List ℕ} {r : List (List ℕ)} (
   accepted : (n : ℕ) → n < 16 → Accepted sh (numberedOf n)
   accepted n h = record { frame = rose-fits sh (length f) (length t) refl zero-number .frame; direction = numbered-accepted n h }
 
-  pub rose-whole : (n : ℕ) → n < 16 → total (getD r n []) ≡ light f sh
+  pub rose-whole : (n : ℕ) → n < 16 → total (getD r n []) ≡ frameLight f sh
   rose-whole n h =
       ap total (rose-row n h) ∙ frame-total f sh (numberedOf n) 32 (accepted n h)
 
