@@ -25,7 +25,7 @@ demo:
 	@tools/run marked
 	@echo "The programs' input: direction number, width and height, rows"
 	@cat crates/sums/stdin
-	@echo "stretches: line number and pixel count; start, end, level, base"
+	@echo "stretches: line number and pixel count; start, end, level, base, place of the encloser"
 	@tools/run stretches < crates/stretches/stdin
 	@echo "sums: direction number and bins; length and sum of each bin; rest"
 	@tools/run sums < crates/sums/stdin

@@ -2,8 +2,8 @@
 #pragma once
 #include "../host/calls.h"
 
-struct Stretch {
-    uint16_t start, end, level, base;
+struct Nested {
+    uint16_t start, end, level, base, encloser;
 };
 
-extern "C" Answer list(const uint8_t *line, size_t n, Stretch *table, size_t entries, uint8_t *scratch, size_t spare);
+extern "C" Answer list(const uint8_t *line, size_t n, Nested *table, size_t entries, uint8_t *scratch, size_t spare);

@@ -1,4 +1,4 @@
-// The list of bright stretches of 1,024 lines of 1,024 pixels, beside plain C of the same stack algorithm.
+// The list of bright stretches, with the place of each one's encloser, of 1,024 lines of 1,024 pixels, beside plain C of the same algorithm.
 // Every list is compared before it is timed; a difference, or a ratio above the target, makes the exit status 1.
 #include "library.h"
 #include "peers/listing.h"
@@ -8,9 +8,9 @@
 #include <cstring>
 
 static const long N = 1024;
-static const double TARGET = 1.3;
+static const double TARGET = 1.15;
 
-static bool agree(const Picture &picture, Stretch *ours, struct stretch *theirs, Picture &scratch)
+static bool agree(const Picture &picture, Nested *ours, struct stretch *theirs, Picture &scratch)
 {
     for (long y = 0; y < N; y++) {
         Answer a = list(&picture[y * N], N, ours, N, scratch.data(), scratch.size());
@@ -31,10 +31,10 @@ int main()
         const char *name;
         Picture picture;
     } cases[] = {{"blurred", blurred_noise(N, N)}, {"noise", noise}};
-    static Stretch ours[N];
+    static Nested ours[N];
     static struct stretch theirs[N];
     bool good = true;
-    std::printf("\n## Stretches\n\nThe list of %ld lines of %ld pixels, nanoseconds a pixel, best of 15; the last column says how many times as long as C it takes.\n\n", N, N);
+    std::printf("\n## Stretches\n\nThe list, with the place of each stretch's encloser, of %ld lines of %ld pixels, nanoseconds a pixel, best of 15; the last column says how many times as long as C it takes.\n\n", N, N);
     std::printf("| picture | list | C | times C |\n|---|---|---|---|\n");
     for (Case &c : cases) {
         bool same = agree(c.picture, ours, theirs, scratch);
@@ -44,6 +44,6 @@ int main()
         std::printf("| %7s | %6.2f | %6.2f | %5.2f%s |\n", c.name, o, t, o / t, same ? "" : ", LISTS DIFFER");
         good = good && same && o <= TARGET * t;
     }
-    std::printf("\n`list` is to take at most %.1f times as long as C: %s\n", TARGET, good ? "met" : "NOT MET");
+    std::printf("\n`list` is to take at most %.2f times as long as C: %s\n", TARGET, good ? "met" : "NOT MET");
     return good ? 0 : 1;
 }

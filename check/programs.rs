@@ -93,26 +93,47 @@ fn lines(f: &Frame) -> Vec<(i64, Vec<u8>)> {
     all.into_iter().collect()
 }
 
+// A line's stretches in their order: start, end, level, base.
+fn listed(line: &[u8]) -> Vec<(usize, usize, u8, u8)> {
+    let mut list = Vec::new();
+    for end in 1..=line.len() {
+        let mut level = 255;
+        for start in (0..end).rev() {
+            level = level.min(line[start]);
+            let mut beside = Vec::new();
+            if start > 0 {
+                beside.push(line[start - 1]);
+            }
+            if end < line.len() {
+                beside.push(line[end]);
+            }
+            if beside.iter().all(|v| *v < level) {
+                list.push((start, end, level, beside.iter().max().copied().unwrap_or(0)));
+            }
+        }
+    }
+    list
+}
+
+// The place in the list of the shortest other stretch that encloses the one at `place`: starts no later, ends no earlier. None encloses the whole line, which has its own.
+fn encloser(list: &[(usize, usize, u8, u8)], place: usize) -> usize {
+    let (start, end, ..) = list[place];
+    let (mut found, mut shortest) = (place, usize::MAX);
+    for (other, &(s, e, ..)) in list.iter().enumerate() {
+        if other != place && s <= start && end <= e && e - s < shortest {
+            (found, shortest) = (other, e - s);
+        }
+    }
+    found
+}
+
 fn stretches(f: &Frame) -> String {
     let mut out = String::new();
     for (k, line) in lines(f) {
         out += &format!("L\t{}\t{}\n", k, line.len());
-        for end in 1..=line.len() {
-            let mut level = 255;
-            for start in (0..end).rev() {
-                level = level.min(line[start]);
-                let mut beside = Vec::new();
-                if start > 0 {
-                    beside.push(line[start - 1]);
-                }
-                if end < line.len() {
-                    beside.push(line[end]);
-                }
-                if beside.iter().all(|v| *v < level) {
-                    let base = beside.iter().max().copied().unwrap_or(0);
-                    out += &format!("Z\t{}\t{}\t{}\t{}\n", start, end, level, base);
-                }
-            }
+        let list = listed(&line);
+        for (place, (start, end, level, base)) in list.iter().enumerate() {
+            out += &format!("Z\t{}\t{}\t{}\t{}\t{}\n", start, end, level, base, encloser(&list, place));
         }
     }
     out
@@ -169,7 +190,17 @@ fn text(direction: usize, width: usize, height: usize, pixel: &mut dyn FnMut(usi
     out.into_bytes()
 }
 
-// Frames: the example, every direction with noise and with runs of few levels, single rows and columns, and a full input.
+// Pixel i of n: a climb, a fall, a mountain, a valley, a comb, and a saw whose teeth start darker and darker, so that 4,096 pixels have 4,096 stretches.
+const NESTS: [fn(usize, usize) -> usize; 6] = [
+    |i, n| 256 * i / n,
+    |i, n| 255 - 256 * i / n,
+    |i, n| 511 * i.min(n - 1 - i) / n,
+    |i, n| 255 - 511 * i.min(n - 1 - i) / n,
+    |i, _| 255 * (i % 2),
+    |i, _| if i % 32 == 0 { 127 - i / 32 } else { 128 + i % 32 },
+];
+
+// Frames: the example, every direction with noise and with runs of few levels, single rows and columns, long nests along, across and aslant, and a full input.
 fn frames(noise: &mut Noise) -> Vec<Vec<u8>> {
     let mut all = vec![b"D\t0\nF\t5\t1\nR\t3\t5\t5\t2\t4\n".to_vec()];
     for d in 0..16 {
@@ -183,6 +214,11 @@ fn frames(noise: &mut Noise) -> Vec<Vec<u8>> {
     }
     all.push(text(0, 4096, 1, &mut |i| i as u64 % 251));
     all.push(text(8, 1, 4096, &mut |i| i as u64 % 7));
+    for nest in NESTS {
+        all.push(text(0, 4096, 1, &mut |i| nest(i, 4096) as u64));
+        all.push(text(8, 1, 4096, &mut |i| nest(i, 4096) as u64));
+        all.push(text(14, 90, 50, &mut |i| nest(i % 90, 90) as u64));
+    }
     // just 65,536 bytes: 13 of head, 8 rows of 4,000 fields, and 1,507 pixels of two digits
     all.push(text(3, 4000, 8, &mut |i| if i < 1507 { 10 } else { 7 }));
     all

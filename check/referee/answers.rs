@@ -11,7 +11,7 @@ const BYTES: usize = 131072;
 const SUMS: usize = 4224;
 const SCRATCH: usize = 49152;
 
-/// The bytes, or sums, behind a lent buffer: none of those may change.
+/// The bytes, sums, places or records behind a lent buffer: none of those may change.
 const GUARD: u64 = 8;
 
 /// What a call hands back, in four numbers.
@@ -35,10 +35,11 @@ fn guarded(n: u64, room: usize) -> usize {
     ((n + GUARD) as usize).min(room)
 }
 
-/// An input is the text that the case brings along; any other source is of the case's kind.
+/// An input is the text that the case brings along; any other source is of the case's kind, and a listing's may be a shape.
 fn source(c: &Case) -> Vec<u8> {
     match c.call {
         READ_INPUT => draw::text(&c.given, c.src as usize, c.height as usize),
+        LIST => draw::line(c.src as usize, c.kind, c.seed),
         _ => draw::bytes(c.src as usize, c.kind, c.seed),
     }
 }
@@ -90,16 +91,25 @@ fn listed(c: &Case, lent: &Lent) -> Got {
     Got { first, ..done(list.len()) }
 }
 
-/// 'The stretches are stored as records of four numbers in a table the caller lends. Entries past the list do not change.'
+/// 'The stretches are stored as records .. in a table the caller lends. Entries past the list do not change.' A record has its encloser's place as a fifth number.
 fn listed_in_table(c: &Case, lent: &Lent) -> Got {
-    let list = stretches(&lent.src);
-    let mut table = vec![[1, 2, 3, 4]; (c.dst.min(4104) + GUARD) as usize];
+    let list = nested(&lent.src);
+    let mut table = vec![[1, 2, 3, 4, 5]; (c.dst.min(4104) + GUARD) as usize];
     let refusal = refusals::list(c.src, list.len() as u64, c.dst, c.scratch);
     if refusal.is_none() {
         table[..list.len()].copy_from_slice(&list);
     }
     let first = check(1, table.iter().flatten().copied());
     Got { first, ..refusal.map_or_else(|| done(list.len()), refused) }
+}
+
+/// The stretches' 'fifth numbers, in the same order', at the front of the places; refused, 'it hands back 0 and nothing changes'. The number is 1 where 0 is handed back.
+fn enclosers(c: &Case, lent: &Lent) -> Got {
+    let refused = refusals::enclosers(c.src, c.dst, c.scratch);
+    let fifth: Vec<u64> = if refused { Vec::new() } else { nested(&lent.src).iter().map(|record| record[4]).collect() };
+    let mut places = draw::places((c.dst + GUARD) as usize, c.seed + 4);
+    places[..fifth.len()].copy_from_slice(&fifth);
+    Got { number: fifth.is_empty() as u64, first: check(1, places.into_iter()), ..done(fifth.len()) }
 }
 
 /// 'A row number of H or more, or a frame that rule 1 or 5 refuses, gives the empty part.'
@@ -229,6 +239,7 @@ fn called(c: &Case, lent: &mut Lent) -> Got {
         ERODE | DILATE | OPEN_LINE => on_line(c, lent),
         STRETCHES | COUNT => listed(c, lent),
         LIST => listed_in_table(c, lent),
+        ENCLOSERS => enclosers(c, lent),
         ROW => row(c, lent),
         LINES_OF | NUMBER | SHAPE | DIRECTION => looked_up(c),
         GATHER => gathered(c, lent),

@@ -2,7 +2,7 @@
 // A case is a line of thirteen numbers; what a call does not take is 0. An input has the bytes of its text behind them. See `families` for what is covered and why.
 
 use crate::definitions::{lines, stretches as stretches_of, Direction, Shape, NUMBERED};
-use crate::draw::Draws;
+use crate::draw::{self, Draws};
 use crate::text_cases::{inputs_edited, inputs_large, inputs_numbers, inputs_refused, inputs_whole, sums_texts};
 
 /// The calls by their numbers in the case file.
@@ -12,6 +12,7 @@ pub const OPEN_LINE: u64 = 3;
 pub const STRETCHES: u64 = 4;
 pub const COUNT: u64 = 5;
 pub const LIST: u64 = 6;
+pub const ENCLOSERS: u64 = 7;
 pub const ROW: u64 = 10;
 pub const LINES_OF: u64 = 11;
 pub const DIRECTION: u64 = 12;
@@ -30,9 +31,9 @@ pub const SUMS_TEXT: u64 = 40;
 pub const READ_INPUT: u64 = 41;
 
 /// The numbers of the calls, with the names that the report gives them.
-pub const CALLS: [(u64, &str); 21] = [
+pub const CALLS: [(u64, &str); 22] = [
     (ERODE, "erosion"), (DILATE, "dilation"), (OPEN_LINE, "opening of a line"), (STRETCHES, "stretches"), (COUNT, "count of stretches"),
-    (ROW, "row"), (LINES_OF, "lines of a frame"), (DIRECTION, "direction: range, shallow, turned"), (NUMBER, "numbered direction"), (SHAPE, "shape"),
+    (ENCLOSERS, "enclosers"), (ROW, "row"), (LINES_OF, "lines of a frame"), (DIRECTION, "direction: range, shallow, turned"), (NUMBER, "numbered direction"), (SHAPE, "shape"),
     (GATHER, "gathering"), (SCATTER, "scattering"), (OPEN_FRAME, "frame opening"), (HIGHEST, "highest"), (DIRECTION_FRAME, "direction frame"),
     (SUMS_OF_LINE, "sums of a line"), (SUMS_OF_FRAME, "sums of a frame"), (ROSE, "rose and its refusal"), (SUMMARY, "summary"),
     (SUMS_TEXT, "sums text"), (READ_INPUT, "input"),
@@ -172,6 +173,21 @@ fn stretches(cases: &mut Cases) {
             for kind in 0..7 {
                 cases.add(Case { call, kind, src: n, scratch: 8 * n, ..Case::default() });
             }
+        }
+    }
+}
+
+/// Lines of every kind: none to 30 pixels, and on and about the limits; places and scratch just enough, and a little more; then each of them one short, both, and none at all.
+fn enclosers(cases: &mut Cases) {
+    for n in (0..=30u64).chain([100, 255, 256, 257, 4095, 4096, 4097]) {
+        for kind in 0..7 {
+            for more in [0, kind + 1] {
+                cases.add(Case { call: ENCLOSERS, kind, src: n, dst: n + more, scratch: 4 * n + more, ..Case::default() });
+            }
+        }
+        let (few, less) = (n.saturating_sub(1), (4 * n).saturating_sub(1));
+        for (dst, scratch) in [(few, 4 * n), (n, less), (few, less), (0, 0)] {
+            cases.add(Case { call: ENCLOSERS, kind: n % 7, src: n, dst, scratch, ..Case::default() });
         }
     }
 }
@@ -376,11 +392,11 @@ fn summaries(cases: &mut Cases) {
     }
 }
 
-/// The cases of check/listing: tables that just fit, are longer, and are one entry short; lines on and about the limits; scratch one byte short; every set of broken rules.
+/// The cases of check/listing: lines of every kind and shape, on and about the limits; tables that just fit, are longer, and are one entry short; scratch one byte short; every set of broken rules.
 pub fn listings() -> Vec<Case> {
     let mut cases = Cases { list: Vec::new(), draws: Draws(7) };
     for n in (0..=40u64).chain([255, 256, 300, 4095, 4096, 4097]) {
-        for kind in 0..7 {
+        for kind in 0..13 {
             for (entries, scratch) in [(n, 8 * n), (n + 7, 8 * n + 1), (n / 2, 8 * n), (n, (8 * n).saturating_sub(1)), (0, 0)] {
                 cases.add(Case { call: LIST, kind, src: n, dst: entries, scratch, ..Case::default() });
             }
@@ -395,18 +411,18 @@ fn fit_table(cases: &mut Cases, n: u64, kind: u64) {
     for less in 0..2 {
         cases.add(Case { call: LIST, kind, src: n, scratch: 8 * n, ..Case::default() });
         let case = cases.list.last_mut().unwrap();
-        let count = stretches_of(&crate::draw::bytes(n as usize, kind, case.seed)).len() as u64;
+        let count = stretches_of(&draw::line(n as usize, kind, case.seed)).len() as u64;
         case.dst = count.saturating_sub(less);
     }
 }
 
-/// All cases, the small ones first, then those of the texts.
+/// All cases, the small ones first, then those of the texts, then the enclosers.
 pub fn families() -> Vec<Case> {
     let mut cases = Cases { list: Vec::new(), draws: Draws(20_250_607) };
     for family in [lines_small, stretches_and_rows, lookups, gathers, openings, sums, summaries, frames_refused, lines_refused, frames_strided, lines_long, lines_of_large, frames_large] {
         family(&mut cases);
     }
-    for family in [sums_texts, inputs_whole, inputs_edited, inputs_numbers, inputs_refused, inputs_large] {
+    for family in [sums_texts, inputs_whole, inputs_edited, inputs_numbers, inputs_refused, inputs_large, enclosers] {
         family(&mut cases);
     }
     cases.list

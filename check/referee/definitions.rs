@@ -172,6 +172,27 @@ pub fn stretches(line: &[u8]) -> Vec<[u64; 4]> {
     list
 }
 
+/// A stretch encloses another where it starts no later and ends no earlier.
+fn encloses(outer: &[u64; 4], inner: &[u64; 4]) -> bool {
+    outer[0] <= inner[0] && inner[1] <= outer[1]
+}
+
+/// 'the place, from 0, in the list of the shortest other stretch that encloses it; the whole line carries its own place'
+fn encloser(list: &[[u64; 4]], place: usize, pixels: usize) -> usize {
+    if list[place][..2] == [0, pixels as u64] {
+        return place;
+    }
+    let others = (0..list.len()).filter(|&other| other != place && encloses(&list[other], &list[place]));
+    others.min_by_key(|&other| list[other][1] - list[other][0]).unwrap()
+}
+
+/// 'Add a fifth number to each stretch record': start, end, level, base, encloser.
+pub fn nested(line: &[u8]) -> Vec<[u64; 5]> {
+    let list = stretches(line);
+    let record = |(place, &[start, end, level, base]): (usize, &[u64; 4])| [start, end, level, base, encloser(&list, place, line.len()) as u64];
+    list.iter().enumerate().map(record).collect()
+}
+
 fn total(line: &[u8]) -> u64 {
     line.iter().map(|&pixel| pixel as u64).sum()
 }

@@ -37,6 +37,27 @@ pub fn bytes(n: usize, kind: u64, seed: u64) -> Vec<u8> {
         .collect()
 }
 
+/// Pixel i of n, by its place alone: a climb, a fall, a mountain, a valley, a comb, or a saw whose teeth start darker and darker, so that 4,096 pixels have 4,096 stretches.
+fn shaped(kind: u64, i: u64, n: u64) -> u64 {
+    match kind {
+        7 => 256 * i / n,
+        8 => 255 - 256 * i / n,
+        9 => 511 * i.min(n - 1 - i) / n,
+        10 => 255 - 511 * i.min(n - 1 - i) / n,
+        11 => 255 * (i % 2),
+        _ if i % 32 == 0 => 127 - i / 32 % 128,
+        _ => 128 + i % 32,
+    }
+}
+
+/// The line of a listing: n pixels of a kind, or from 7 on of a shape, which check/tables/tables.txt draws on the other side.
+pub fn line(n: usize, kind: u64, seed: u64) -> Vec<u8> {
+    if kind < 7 {
+        return bytes(n, kind, seed);
+    }
+    (0..n as u64).map(|i| shaped(kind, i, n as u64) as u8).collect()
+}
+
 /// An entry of a sums slice: below a thousand, none, below 2^53, below 2^43, none or one, about 2^52, about a third of 2^53, any number at all, a power of ten, one less than a power of ten,
 /// about 2^53, or about the largest.
 fn sum(kind: u64, drawn: u64) -> u64 {
@@ -63,6 +84,17 @@ pub fn sums(n: usize, kind: u64, seed: u64) -> Vec<u64> {
         .map(|_| {
             s = step(s);
             sum(kind, s)
+        })
+        .collect()
+}
+
+/// n places of noise: any numbers of 16 bits.
+pub fn places(n: usize, seed: u64) -> Vec<u64> {
+    let mut s = seeded(seed);
+    (0..n)
+        .map(|_| {
+            s = step(s);
+            s % 65536
         })
         .collect()
 }

@@ -1,6 +1,6 @@
 // The marked examples of the specification, P1 to P12, and those of the two programs: the referee holds its own definitions to them before it writes anything.
 
-use crate::definitions::{dilated, eroded, lines, opened, stretches, sums, Direction, Shape};
+use crate::definitions::{dilated, eroded, lines, nested, opened, sums, Direction, Shape};
 use crate::texts::{input_text, read, sums_text, Input};
 
 const LINE: [u8; 5] = [3, 5, 5, 2, 4];
@@ -13,13 +13,13 @@ fn windows_hold() -> bool {
         && dilated(&[3, 5, 2, 2], 2) == [3, 5, 5, 2, 2]
 }
 
-/// P7 to P10, and what the program stretches prints of the line.
+/// P7 to P10, each stretch with its encloser's place, and what the program stretches prints of the line.
 fn stretches_hold() -> bool {
-    stretches(&[7]) == [[0, 1, 7, 0]]
-        && stretches(&[4, 4, 4]) == [[0, 3, 4, 0]]
-        && stretches(&[1, 2, 3]) == [[2, 3, 3, 2], [1, 3, 2, 1], [0, 3, 1, 0]]
-        && stretches(&[3, 2, 1]) == [[0, 1, 3, 2], [0, 2, 2, 1], [0, 3, 1, 0]]
-        && stretches(&LINE) == [[1, 3, 5, 3], [0, 3, 3, 2], [4, 5, 4, 2], [0, 5, 2, 0]]
+    nested(&[7]) == [[0, 1, 7, 0, 0]]
+        && nested(&[4, 4, 4]) == [[0, 3, 4, 0, 0]]
+        && nested(&[1, 2, 3]) == [[2, 3, 3, 2, 1], [1, 3, 2, 1, 2], [0, 3, 1, 0, 2]]
+        && nested(&[3, 2, 1]) == [[0, 1, 3, 2, 1], [0, 2, 2, 1, 2], [0, 3, 1, 0, 2]]
+        && nested(&LINE) == [[1, 3, 5, 3, 1], [0, 3, 3, 2, 3], [4, 5, 4, 2, 3], [0, 5, 2, 0, 3]]
 }
 
 /// P11 and P12, on 4 by 2.

@@ -41,6 +41,11 @@ pub fn list(n: u64, stretches: u64, entries: u64, scratch: u64) -> Option<Refusa
     first_broken(&[(outside(n, 1, 4096), 1, 0), (scratch < 8 * n, 7, 8 * n), (entries < stretches, 8, stretches)])
 }
 
+/// 'With more than 4,096 pixels, fewer places than pixels, or fewer than 4 bytes of scratch a pixel': this call has no number.
+pub fn enclosers(n: u64, places: u64, scratch: u64) -> bool {
+    n > 4096 || places < n || scratch < 4 * n
+}
+
 /// What a frame's scratch needs: 'scratch shorter than 8·max(W, H) bytes'.
 fn scratch_for(shape: Shape) -> u64 {
     8 * shape.width.max(shape.height)

@@ -16,11 +16,11 @@ use borrow.Author.Tests.{ltb-true, ltb-false, lt-ltb, le-ltb, le-leb, lt-leb, le
 use Rattle.lists.specs.Tables.{keep}
 use Rattle.lists.specs.Extremes.{greatest}
 use Rattle.bright.specs.declared.Stretch.{Stretch}
-use Rattle.bright.specs.Stretches.{stretches}
+use Rattle.bright.specs.Stretches.{stretches, long}
 use Rattle.bright.specs.Reading.{Run, topLevel, topHolds, topBelow, closed, ended, settled, climbed, ending, todo}
 use Rattle.bright.proofs.Model.{todo-stretches}
 use Rattle.bright.proofs.Turn.{ended-none, low-top}
-use Rattle.bridge.specs.Reach.{long, inStretch, reaching}
+use Rattle.bridge.specs.Reach.{inStretch, reaching}
 
 unfoldable pub holders : ℕ → List Stretch → List Stretch
 holders x [] = []

@@ -19,11 +19,11 @@ use Rattle.lists.proofs.Cases.{both, both-left, both-right}
 use Rattle.line.specs.Windows.{darkest, openedAt, opened}
 use Rattle.line.proofs.Windows.{le-opened-at, opened-at-le, opened-at}
 use Rattle.bright.specs.declared.Stretch.{Stretch}
-use Rattle.bright.specs.Stretches.{levelOf, stretchOf, stretches, Bright}
+use Rattle.bright.specs.Stretches.{levelOf, stretchOf, stretches, Bright, long}
 use Rattle.bright.proofs.Levels.{level-part}
 use Rattle.bright.proofs.Listed.{all-intro, all-elim}
 use Rattle.bright.proofs.Nest.{Around, extend, around-bright}
-use Rattle.bridge.specs.Reach.{long, inStretch, reaching}
+use Rattle.bridge.specs.Reach.{inStretch, reaching}
 
 -- ---- the greatest of the levels that reach, by its bounds
 

@@ -21,9 +21,9 @@ use Rattle.lists.proofs.Tables.{table-same, table-by}
 use Rattle.lists.proofs.Extremes.{total-table, total-add, total-zero}
 use Rattle.line.specs.Windows.{openedAt, opened}
 use Rattle.bright.specs.declared.Stretch.{Stretch}
-use Rattle.bright.specs.Stretches.{stretchOf, stretches}
+use Rattle.bright.specs.Stretches.{stretchOf, stretches, long}
 use Rattle.bright.proofs.Listed.{all-intro}
-use Rattle.bridge.specs.Reach.{long, inStretch}
+use Rattle.bridge.specs.Reach.{inStretch}
 use Rattle.bridge.specs.Sums.{sumFor, binFor, restFor, light, lightOf}
 use Rattle.bridge.proofs.Chain.{holders, gainOf, holders-chain, gain-whole, gain-reaching}
 use Rattle.bridge.proofs.Openings.{opened-at-stretches}

@@ -1,17 +1,14 @@
 -- The openings of a line from its listed stretches (demand 3).
---   long s               how many pixels a stretch has
 --   inStretch x s        the stretch s holds the pixel x
 --   reaching L x ss      the levels of those stretches of ss that are at least L long and hold x
 -- Laws: bridge/proofs/Openings.
 use mathlib.Core.Bool.{Bool, _&&_}
 use mathlib.Core.List.{List, [], _∷_, _++_}
-use Prim.Native.Nat.{ℕ, _-_}
+use Prim.Native.Nat.{ℕ}
 use lib.Dec.{leb, ltb}
 use Rattle.lists.specs.Tables.{keep}
 use Rattle.bright.specs.declared.Stretch.{Stretch}
-
-abbrev pub long : Stretch → ℕ
-long s = s .end - s .start
+use Rattle.bright.specs.Stretches.{long}
 
 abbrev pub inStretch : ℕ → Stretch → Bool
 inStretch x s = leb (s .start) x && ltb x (s .end)

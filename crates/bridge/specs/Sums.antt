@@ -11,7 +11,7 @@ use Prim.Native.Nat.{ℕ, suc, _+_, _-_, _*_}
 use Rattle.lists.specs.Extremes.{total}
 use Rattle.line.specs.Windows.{opened}
 use Rattle.bright.specs.declared.Stretch.{Stretch}
-use Rattle.bridge.specs.Reach.{long}
+use Rattle.bright.specs.Stretches.{long}
 
 -- 'The sum for a length is the total of the opened pixels.'
 abbrev pub sumFor : List ℕ → ℕ → ℕ

@@ -162,9 +162,9 @@ module _ (f : List ℕ) where
           absurd (omega (arith, level-pixel f c d y (omega arith) k n, t .right (omega arith)))
 
   -- the stretch around a wider run at the level of the base
-  encloses : (a b : ℕ) (s : Bright f a b) (c d : ℕ) → c ≤ a → b ≤ d → b - a < d - c → (x : Around f c d (baseOf f a b))
+  around-encloses : (a b : ℕ) (s : Bright f a b) (c d : ℕ) → c ≤ a → b ≤ d → b - a < d - c → (x : Around f c d (baseOf f a b))
       → Encloser a b (x .from) (x .to)
-  encloses a b s c d p q l x =
+  around-encloses a b s c d p q l x =
       let k : c < d = omega (arith, s .some) in
       let g : baseOf f a b ≤ levelOf f (x .from) (x .to) = x .high in
       record {
@@ -189,7 +189,7 @@ module _ (f : List ℕ) where
           found x = (
             x .from,
             x .to,
-            encloses a b s (p .0) (p .1) (p .2) (p .3) (p .5) x,
+            around-encloses a b s (p .0) (p .1) (p .2) (p .3) (p .5) x,
             around-level f (p .0) (p .1) (baseOf f a b) (omega (arith, p .2, p .3, s .some)) (omega (arith, p .6)) x,
           )
 

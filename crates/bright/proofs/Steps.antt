@@ -2,7 +2,11 @@
 --   ready-test, test-ready                  the test of a bookmark, and its facts
 --   coming-beginning                        from the beginning on, every stretch is to come
 --   coming-next                             the stretch that a step finds is the first to come, and the others come from the bookmark that it hands back
+--   next-handed, next-left                  where a stretch is found: what is handed back, and what is then left to come
+--   next-room                               .. and the scratch has room for the runs then open
 --   coming-none                             where a step finds none, none is to come
+--   place-inside, -found, -others           where those to come are a list from a place on: the stretch found stands at that place, the others come from the next
+--   place-none                              .. and where none is found, the place is the list's end
 --   begins-as, begins-end, begins-first     a run is open already, or the line is at its end, or the pixel opens one
 --   Climbing                                where a climb stands; climbing-start, -more, -stops, -end
 --   falls-first, falls-low, falls-pop       the topmost run falls
@@ -24,9 +28,11 @@ use Rattle.lists.proofs.Cases.{both-left, both-right}
 use Rattle.answer.specs.Limits.{longest}
 use Rattle.bright.specs.declared.Bookmark.{Bookmark}
 use Rattle.bright.specs.declared.Step.{Step}
-use Rattle.bright.specs.Stretches.{stretches}
-use Rattle.bright.specs.Reading.{Run, topLevel, topHolds, climbed, Stop, stepFrom}
+use Rattle.bright.specs.declared.Stretch.{Stretch}
+use Rattle.bright.specs.Stretches.{stretches, noStretch}
+use Rattle.bright.specs.Reading.{Run, topLevel, topHolds, climbed, todo, Stop, stepFrom}
 use Rattle.bright.specs.Generator.{Layout, stackOf, isReady, beginning, coming, stopAt, stepOf, noStep, Follows}
+use Rattle.bright.specs.Nesting.{stretchAt}
 use Rattle.bright.specs.Steps.{Ready, Begins, Closes, Ends, Climbs, Falls, Finds}
 use Rattle.bright.proofs.Model.{todo-stretches}
 use Rattle.bright.proofs.Stack.{stack-top, stack-below, stack-length}
@@ -265,16 +271,32 @@ module _ {run : Layout} {f m : List ℕ} {p : Bookmark} {m′ : List ℕ} {r : S
         let inside = stop-inside (length f) (p .read) (drop (p .read) f) (stackOf run m (p .depth)) line few in
         record { pixels = ready .pixels; room = omega (arith, g .kept, ready .room); read = inside .0; depth = inside .1 }
 
-  pub coming-next : r .found ≡ true → coming run f m p ≡ r .stretch ∷ coming run f m′ (r .bookmark)
-  coming-next y = go (isReady (length f) (length m) p) refl
+  -- a step finds a stretch only where a reading can stand
+  stands : r .found ≡ true → isReady (length f) (length m) p ≡ true
+  stands y = go (isReady (length f) (length m) p) refl
     where
-      go : (t : Bool) → isReady (length f) (length m) p ≡ t → coming run f m p ≡ r .stretch ∷ coming run f m′ (r .bookmark)
-      go true e =
-          let found : s .found ≡ true = rw (handed e) at y in
-          comes e ∙ rw (found, g .leaves y, handed e, ready-test f m′ (stepOf s .bookmark) (still e))
+      go : (t : Bool) → isReady (length f) (length m) p ≡ t → isReady (length f) (length m) p ≡ true
+      go true e = e
       go false e =
           let lost : r .found ≡ false = rw (g .steps, e) in
           absurd (false≢true (sym lost ∙ y))
+
+  module _ (y : r .found ≡ true) where
+    pub next-handed : r ≡ stepOf s
+    next-handed = handed (stands y)
+
+    pub next-left : coming run f m′ (r .bookmark) ≡ todo (s .read) (drop (s .read) f) (s .runs)
+    next-left = rw (g .leaves y, next-handed, ready-test f m′ (stepOf s .bookmark) (still (stands y)))
+
+    pub coming-next : coming run f m p ≡ r .stretch ∷ coming run f m′ (r .bookmark)
+    coming-next =
+        let found : s .found ≡ true = rw next-handed at y in
+        comes (stands y) ∙ rw (found, next-left, next-handed)
+
+    pub next-room : 4 * r .bookmark .depth ≤ length m′
+    next-room =
+        let ready = still (stands y) in
+        rw next-handed (omega (arith, ready .room, ready .read, ready .depth))
 
   pub coming-none : r .found ≡ false → coming run f m p ≡ []
   coming-none y = go (isReady (length f) (length m) p) refl
@@ -284,3 +306,24 @@ module _ {run : Layout} {f m : List ℕ} {p : Bookmark} {m′ : List ℕ} {r : S
           let found : s .found ≡ false = rw (handed e) at y in
           comes e ∙ rw found
       go false e = rw e
+
+  -- where those to come are the list ss from the place i on
+  module _ (ss : List Stretch) (i : ℕ) (others : coming run f m p ≡ drop i ss) where
+    pub place-none : r .found ≡ false → length ss ≤ i
+    place-none y = omega (arith, ap length (sym others ∙ coming-none y), length-drop i ss)
+
+    module _ (y : r .found ≡ true) where
+      first : drop i ss ≡ r .stretch ∷ coming run f m′ (r .bookmark)
+      first = sym others ∙ coming-next y
+
+      pub place-inside : i < length ss
+      place-inside = omega (arith, ap length first, length-drop i ss)
+
+      apart : stretchAt ss i ∷ drop (suc i) ss ≡ r .stretch ∷ coming run f m′ (r .bookmark)
+      apart = sym (drop-cons ss i noStretch place-inside) ∙ first
+
+      pub place-found : r .stretch ≡ stretchAt ss i
+      place-found = let e = apart in cc
+
+      pub place-others : coming run f m′ (r .bookmark) ≡ drop (i + 1) ss
+      place-others = let e = apart in rw (add-one i) cc

@@ -1,5 +1,6 @@
 -- The generator: a reading of a line stands at a bookmark, its open runs in the lent scratch, and each step finds the next stretch.
 --   pairAt m i           the number of two bytes at i, the low one first
+--   putPair m i v        m with the number v in two bytes at i, the low one first
 --   Layout               how a run lies in the scratch: which run is number i of the scratch m. Every run has four bytes, whatever the width of a pixel
 --   run8                 the layout for pixels of eight bits: two bytes of start, one of level, one free
 --   stackOf run m d      the first d runs of the scratch m, the last on top
@@ -17,17 +18,21 @@
 use mathlib.Core.Path.{_≡_}
 use mathlib.Core.Bool.{Bool, true, false, cond, _&&_}
 use mathlib.Core.List.{List, [], _∷_}
-use Prim.Native.Nat.{ℕ, zero, suc, _+_, _*_}
+use Prim.Native.Nat.{ℕ, zero, suc, _+_, _*_, _/_, _%_}
 use lib.Dec.{leb}
-use lib.ListN.{length, getD, drop}
+use lib.ListN.{length, getD, set, drop}
 use Rattle.answer.specs.Limits.{longest}
 use Rattle.bright.specs.declared.Stretch.{Stretch}
 use Rattle.bright.specs.declared.Bookmark.{Bookmark}
 use Rattle.bright.specs.declared.Step.{Step}
-use Rattle.bright.specs.Reading.{Run, todo, Stop, noStretch, stepFrom}
+use Rattle.bright.specs.Stretches.{noStretch}
+use Rattle.bright.specs.Reading.{Run, todo, Stop, stepFrom}
 
 abbrev pub pairAt : List ℕ → ℕ → ℕ
 pairAt m i = getD m i 0 + 256 * getD m (i + 1) 0
+
+abbrev pub putPair : List ℕ → ℕ → ℕ → List ℕ
+putPair m i v = set (set m i (v % 256)) (i + 1) (v / 256)
 
 abbrev pub Layout : Type 0
 Layout = List ℕ → ℕ → Run

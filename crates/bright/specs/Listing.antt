@@ -11,8 +11,9 @@ use Rattle.lists.specs.Stores.{front}
 use Rattle.answer.specs.declared.Answer.{Answer}
 use Rattle.answer.specs.Limits.{longest}
 use Rattle.answer.specs.Rules.{Rule, rule, answer, after, outside}
-use Rattle.bright.specs.declared.Stretch.{Stretch}
+use Rattle.bright.specs.declared.Nested.{Nested}
 use Rattle.bright.specs.Stretches.{stretches}
+use Rattle.bright.specs.Nesting.{records}
 
 -- n pixels, a scratch of spare bytes, a table of room entries, and the entries that the line needs
 abbrev pub listRules : ℕ → ℕ → ℕ → ℕ → List Rule
@@ -24,8 +25,8 @@ listRules n spare room entries =
 
 -- 'A done listing hands back the count of stretches'; 'Entries past the list do not change.'
 -- A refused call keeps scratch. What scratch holds after a done call is left open, its length apart.
-pub record ListsLine (f : List ℕ) (table table′ : List Stretch) (scratch scratch′ : List ℕ) (a : Answer) : Type 0 where
+pub record ListsLine (f : List ℕ) (table table′ : List Nested) (scratch scratch′ : List ℕ) (a : Answer) : Type 0 where
   pub answers : a ≡ answer (listRules (length f) (length scratch) (length table) (length (stretches f))) (length (stretches f))
-  pub written : table′ ≡ after a (front (stretches f) table) table
+  pub written : table′ ≡ after a (front (records (stretches f)) table) table
   pub scratch-kept : (a .number ≡ 0 → ⊥) → scratch′ ≡ scratch
   pub scratch-length : length scratch′ ≡ length scratch

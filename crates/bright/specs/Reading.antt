@@ -3,6 +3,7 @@
 --   Run                  an open run: its start and its level
 --   levels8              how many levels a pixel of eight bits can have
 --   topLevel rs          the level of the run on top; 0 where there is none
+--   topStart rs          where the run on top starts; 0 where there is none
 --   topHolds v rs        there is a run on top, and its level is v or more
 --   topBelow v rs        there is none on top whose level is v or more
 --   closed r b base      the stretch that the run r is where it ends at b, with this base
@@ -12,16 +13,16 @@
 --   ending b rs          the stretches that the line's end at b ends: every open run
 --   todo b ps rs         the stretches still to come at b, of the pixels ps from b on, with the runs rs open
 --   Stop                 where a step stops: whether a run has ended, the stretch that it is, how many pixels are then read, and the runs then open
---   noStretch            what stands for a stretch where none is found
 --   fallen v r rs        the runs once r, on top of rs, is ended by a pixel v
 --   stepFrom b ps rs     one step from b on, with the pixels ps ahead and the runs rs open: on to where a run ends
 -- Laws: bright/proofs/Model (todo-stretches: todo 0 f [] is the list of bright stretches), Stops (stop-comes: the stretch of a step is the first to come, and the others come
--- from where it stops), Turn (what one pixel does to the open runs).
+-- from where it stops), Turn (what one pixel does to the open runs), Outers (next-outer: where a run ends, the one then on top goes on to be its encloser).
 use mathlib.Core.Bool.{Bool, true, false, cond}
 use mathlib.Core.List.{List, [], _∷_, _++_}
 use Prim.Native.Nat.{ℕ, suc, max}
 use lib.Dec.{ltb, leb}
 use Rattle.bright.specs.declared.Stretch.{Stretch}
+use Rattle.bright.specs.Stretches.{noStretch}
 
 pub record Run : Type 0 where
   pub start : ℕ
@@ -34,6 +35,10 @@ levels8 = 256
 abbrev pub topLevel : List Run → ℕ
 topLevel [] = 0
 topLevel (r ∷ rs) = r .level
+
+abbrev pub topStart : List Run → ℕ
+topStart [] = 0
+topStart (r ∷ rs) = r .start
 
 abbrev pub topHolds : ℕ → List Run → Bool
 topHolds v [] = false
@@ -72,9 +77,6 @@ pub record Stop : Type 0 where
   pub stretch : Stretch
   pub read : ℕ
   pub runs : List Run
-
-abbrev pub noStretch : Stretch
-noStretch = record { start = 0; end = 0; level = 0; base = 0 }
 
 -- the run goes on from its start at level v, unless the one below holds v
 abbrev pub fallen : ℕ → Run → List Run → List Run

@@ -7,12 +7,14 @@
 --   isStretch f a b      the pixels a to b − 1 are a stretch
 --   baseOf f a b         the brighter of the neighbours
 --   stretchOf f a b      the four numbers of the stretch from a to b
+--   long s               how many pixels a stretch has
+--   noStretch            what stands for a stretch where there is none
 --   endingAt f b a       the stretches that end at b and start before a, the latest start first
 --   stretches f          the list of bright stretches
 --   Bright f a b         the pixels a to b − 1 are a stretch, as facts
 --   ListedBefore s t     s comes before t in the list
 -- Laws: bright/proofs/Levels (the level of a run as it grows), Model (todo-stretches: one reading makes the list), Listed (the list holds every stretch, and nothing else),
--- Order (it is in order, and holds each once), Nest (a base is the level of the shortest other stretch that encloses), Counting (no more stretches than pixels).
+-- Order (it is in order, and holds each once), Nest (a base is the level of the shortest other stretch that encloses), Enclosers (which of the list that is), Counting (no more stretches than pixels).
 use mathlib.Core.Path.{_≡_}
 use mathlib.Core.Bool.{Bool, true, _&&_}
 use mathlib.Core.Logic.{_⊎_}
@@ -52,6 +54,12 @@ baseOf f a b = greatest (neighbours f a b)
 
 unfoldable pub stretchOf : List ℕ → ℕ → ℕ → Stretch
 stretchOf f a b = record { start = a; end = b; level = levelOf f a b; base = baseOf f a b }
+
+abbrev pub long : Stretch → ℕ
+long s = s .end - s .start
+
+abbrev pub noStretch : Stretch
+noStretch = record { start = 0; end = 0; level = 0; base = 0 }
 
 -- 'The list is ordered by end, and among equal ends by descending start.'
 unfoldable pub endingAt : List ℕ → ℕ → ℕ → List Stretch

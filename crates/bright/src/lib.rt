@@ -10,6 +10,14 @@ pub struct Stretch {
     pub base: u16,
 }
 
+// A bright stretch as the list holds it: its four numbers and, as the fifth, the place, from 0, in the list of the shortest other stretch that encloses it; of the whole
+// line its own place.
+#[repr(C)]
+pub struct Nested {
+    pub stretch: Stretch,
+    pub encloser: u16,
+}
+
 // Where a reading of a line stands: how many pixels are read, and how many runs are open in the scratch.
 pub struct Bookmark {
     pub read: usize,
@@ -20,5 +28,13 @@ pub struct Bookmark {
 pub struct Step {
     pub found: bool,
     pub stretch: Stretch,
+    pub bookmark: Bookmark,
+}
+
+// What a listing finds next, and the bookmark to go on from. No place in the list is known before the list is whole: until then `nested` has the start of its
+// encloser for the encloser's place.
+pub struct Noted {
+    pub found: bool,
+    pub nested: Nested,
     pub bookmark: Bookmark,
 }

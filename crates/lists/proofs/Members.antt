@@ -67,10 +67,10 @@ unfolding All
 all-self [] = tt
 all-self {A} (x ∷ xs) = (List·Memᴰ·head refl, all-map (λ (y : A). List·Memᴰ y xs) (λ (y : A). List·Memᴰ y (x ∷ xs)) xs (λ y m. List·Memᴰ·tail m) (all-self xs))
 
-pub mem-at : (a : ℕ) (l : List ℕ) → List·Memᴰ a l → (j : ℕ) × (j < length l) × (getD l j 0 ≡ a)
-mem-at a [] m = absurd (List·Memᴰ·not-nil m)
-mem-at a (b ∷ l) m = go (mem-at a l) (List·Memᴰ·cases-cons m)
+pub mem-at : {A : Type 0} (d a : A) (l : List A) → List·Memᴰ a l → (j : ℕ) × (j < length l) × (getD l j d ≡ a)
+mem-at d a [] m = absurd (List·Memᴰ·not-nil m)
+mem-at d a (b ∷ l) m = go (mem-at d a l) (List·Memᴰ·cases-cons m)
   where
-    go : (List·Memᴰ a l → (j : ℕ) × (j < length l) × (getD l j 0 ≡ a)) → (a ≡ b) ⊎ List·Memᴰ a l → (j : ℕ) × (j < length (b ∷ l)) × (getD (b ∷ l) j 0 ≡ a)
+    go : (List·Memᴰ a l → (j : ℕ) × (j < length l) × (getD l j d ≡ a)) → (a ≡ b) ⊎ List·Memᴰ a l → (j : ℕ) × (j < length (b ∷ l)) × (getD (b ∷ l) j d ≡ a)
     go ih (inl e) = (0, omega arith, sym e)
     go ih (inr n) = let r = ih n in (suc (r .0), omega (arith, r .1), r .2)

@@ -2,6 +2,7 @@
 --   filled-none                     no store
 --   filled-more, filled-before      one store more, behind the others or before them
 --   filled-join, filled-join-before one stretch behind another, or before it
+--   filled-again                    one stretch stored a second time
 --   filled-end, filled-start, filled-as    the same stretch, its ends and values known by equations
 --   filled-whole, filled-copy, filled-front    what a filled list is
 --   filled-once                     one stretch of stores leaves one list
@@ -91,6 +92,9 @@ filled-join-before {d} {a} {b} {lo} {mid} {hi} {F} f g low high =
       below = λ k h. g .below k h ∙ f .below k (omega arith);
       above = λ k h. g .above k (omega arith) ∙ f .above k h;
     }
+
+pub filled-again : {d a b : List ℕ} {lo hi : ℕ} {F G : ℕ → ℕ} → Filled d a lo hi G → Filled a b lo hi F → Filled d b lo hi F
+filled-again f g = record { same = g .same ∙ f .same; within = g .within; below = λ k h. g .below k h ∙ f .below k h; above = λ k h. g .above k h ∙ f .above k h }
 
 -- filled from the first place to the last
 pub filled-whole : {d a : List ℕ} {hi : ℕ} {F : ℕ → ℕ} → Filled d a 0 hi F → hi ≡ length d → a ≡ table F hi

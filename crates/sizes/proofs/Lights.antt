@@ -22,9 +22,8 @@ use Rattle.lists.proofs.Extremes.{greatest-append}
 use Rattle.answer.specs.Limits.{longest}
 use Rattle.lists.proofs.Totals.{entry-total, total-most}
 use Rattle.bright.specs.declared.Stretch.{Stretch}
-use Rattle.bright.specs.Stretches.{before, behind, levelOf, baseOf, stretchOf, stretches, Bright}
+use Rattle.bright.specs.Stretches.{before, behind, levelOf, baseOf, stretchOf, stretches, Bright, long}
 use Rattle.bright.proofs.Listed.{all-intro}
-use Rattle.bridge.specs.Reach.{long}
 use Rattle.bridge.specs.Sums.{sumFor, light, lightOf}
 use Rattle.bridge.proofs.Sizes.{bin-stretches, rest-stretches}
 use Rattle.sizes.specs.Sums.{lineSums}

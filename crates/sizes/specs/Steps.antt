@@ -24,7 +24,7 @@ use Rattle.frame.specs.Direction.{numberedOf}
 use Rattle.frame.specs.Shape.{isFrame, needed, scratchFor}
 use Rattle.frame.specs.Sweep.{Accepted}
 use Rattle.bright.specs.declared.Stretch.{Stretch}
-use Rattle.bridge.specs.Reach.{long}
+use Rattle.bright.specs.Stretches.{long}
 use Rattle.bridge.specs.Sums.{light, lightOf}
 use Rattle.sizes.specs.Sums.{lineSums, frameSums}
 use Rattle.sizes.specs.Rose.{roseBins}

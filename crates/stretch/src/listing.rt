@@ -1,9 +1,10 @@
 // The list of bright stretches in a lent table.
 use crate::Bookmark;
+use crate::Nested;
 use crate::Pixel;
-use crate::Stretch;
 use crate::generator::begin;
-use crate::generator::next;
+use crate::nesting::link;
+use crate::nesting::next_noted;
 use crate::tally::count;
 use answer::Answer;
 use answer::LONGEST;
@@ -51,19 +52,31 @@ fn finish(tested: Answer, entries: usize) -> Answer
     Answer::done(entries as u64)
 }
 
-// Lists the bright stretches of a line at the front of a table. Hands back their count. Rules 1, 7, 8.
-pub fn list(line: &[Pixel], table: &mut [Stretch], scratch: &mut [u8]) -> Answer
+// Lists the bright stretches of a line at the front of a table, each with the place of the shortest other that encloses it. Hands back their count. Rules 1, 7, 8.
+// An encloser comes later in the list: first its start is noted for its place, then the places are found from the last record down.
+pub fn list(line: &[Pixel], table: &mut [Nested], scratch: &mut [u8]) -> Answer
     ensures { λ r. ⌜ ListsLine (now (line .entry)) (now (table .entry)) (now (table .exit)) (now (scratch .entry)) (now (scratch .exit)) r ⌝ }
 {
     let a = refusal(line, table.len(), scratch.len());
     let mut at = start(a);
     let mut i: usize = 0;
     loop {
-        let step = next(line, scratch, at);
+        let step = next_noted(line, scratch, at);
         if step.found {
-            table[i] = step.stretch;
+            table[i] = step.nested;
             at = step.bookmark;
             i += 1;
+        } else {
+            break;
+        }
+    }
+    let mut k = i;
+    loop {
+        if 0 < k {
+            let last = k - 1;
+            let noted = table[last];
+            table[last].encloser = link(scratch, noted.stretch.start, noted.encloser, last, i);
+            k = last;
         } else {
             break;
         }

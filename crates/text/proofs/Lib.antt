@@ -7,6 +7,7 @@
 --   Frames      reading an input, rule by rule
 --   Inputs      what is read is there as text, and what is there as text is read
 --   Reports     what is printed of a line and of a refusal
+--   Printings   the stretches of a line, found one after the other, and the `Z` line of each
 pub mod Decimals
 pub mod Runs
 pub mod Texts
@@ -15,3 +16,4 @@ pub mod Goings
 pub mod Frames
 pub mod Inputs
 pub mod Reports
+pub mod Printings

@@ -3,13 +3,13 @@
 --   title-put, title-length, title-most    the parts of the `L` line, put one behind the other; how long it is; title-room, title-ends: they have room
 --   title-below, title-above               how long it is beside a line with both numbers
 --   stretches-cons, stretches-none         the `Z` lines, with the first apart; none
---   stretches-length, stretches-most       how long they are
---   report-put, report-length, report-fits the `L` line and the `Z` lines; how long they are; 64 bytes, and 86 a pixel, are room for them; report-some: there are some
+--   stretches-most                         how long they are at most
+--   report-put, report-length, report-fits the `L` line and the `Z` lines; how long they are; 64 bytes, and 107 a pixel, are room for them; report-some: there are some
 --   printable, too-long, no-room           a line of at most 4,096 pixels whose text has room; one with more pixels; one whose text has no room
 --   refusal-is, refusal-length   the text of a refusal; how long it is
 --   puts-as                      the same text by another name
 --   prints-done, prints-none     a text put at the front, or none
---   line-example                 document 01's example of the program stretches
+--   line-example                 document 01's example of the program stretches, with the fifth numbers
 -- Assumes nothing.
 use mathlib.Core.Path.{_≡_, refl, ap, _∙_}
 use mathlib.Core.Bool.{Bool, true, false, cond}
@@ -25,9 +25,11 @@ use Rattle.lists.specs.Tables as tables
 use Rattle.lists.specs.Extremes as extremes
 use Rattle.lists.proofs.Cases.{less-or-not}
 use Rattle.answer.specs.Limits.{longest}
-use Rattle.bright.specs.declared.Stretch.{Stretch}
+use Rattle.bright.specs.declared.Nested.{Nested}
 use Rattle.bright.specs.Stretches as bright
+use Rattle.bright.specs.Nesting as nesting
 use Rattle.bright.proofs.Counting.{stretches-few}
+use Rattle.bright.proofs.Records.{records-length}
 use Rattle.text.specs.Decimal.{digits, decimal}
 use Rattle.text.specs.Lines.{tab, feed, fieldsText, lineText, Puts}
 use Rattle.text.specs.Stretches.{signedText, titleText, stretchFields, stretchesText, lineReport, refusalText, isPrintable, Prints}
@@ -87,13 +89,13 @@ module _ (z : ℤ) (n m : ℕ) (size : m ≡ natAbs z) where
   pub title-above : ltZ z (pos 0) ≡ false → length (titleText z n) ≡ length (lineText 0 (m ∷ n ∷ []))
   title-above e = omega (arith, title-length z n, ap length (signed-above z m size e), pair-length m n)
 
-stretch-most : (ss : List Stretch) → length (stretchesText ss) ≤ 86 * length ss
+stretch-most : (ss : List Nested) → length (stretchesText ss) ≤ 107 * length ss
 unfolding stretchesText
 stretch-most [] = zero-le
 stretch-most (s ∷ ss) =
     omega (arith, length-append (lineText 90 (stretchFields s)) (stretchesText ss), length-append (fieldsText (stretchFields s)) (feed ∷ []), fields-most (stretchFields s), stretch-most ss)
 
-pub stretches-cons : (s : Stretch) (ss : List Stretch) → stretchesText (s ∷ ss) ≡ lineText 90 (stretchFields s) ++ stretchesText ss
+pub stretches-cons : (s : Nested) (ss : List Nested) → stretchesText (s ∷ ss) ≡ lineText 90 (stretchFields s) ++ stretchesText ss
 unfolding stretchesText
 stretches-cons s ss = refl
 
@@ -101,22 +103,19 @@ pub stretches-none : stretchesText [] ≡ []
 unfolding stretchesText
 stretches-none = refl
 
-pub stretches-length : (s : Stretch) (ss : List Stretch) → length (stretchesText (s ∷ ss)) ≡ length (lineText 90 (stretchFields s)) + length (stretchesText ss)
-stretches-length s ss = ap length (stretches-cons s ss) ∙ length-append (lineText 90 (stretchFields s)) (stretchesText ss)
-
-pub stretches-most : (f : List ℕ) → length (stretchesText (bright.stretches f)) ≤ 86 * length f
-stretches-most f = omega (arith, stretch-most (bright.stretches f), stretches-few f)
+pub stretches-most : (f : List ℕ) → length (stretchesText (nesting.records (bright.stretches f))) ≤ 107 * length f
+stretches-most f = omega (arith, stretch-most (nesting.records (bright.stretches f)), records-length (bright.stretches f), stretches-few f)
 
 module _ (z : ℤ) (f : List ℕ) where
-  pub report-length : length (lineReport z f) ≡ length (titleText z (length f)) + length (stretchesText (bright.stretches f))
+  pub report-length : length (lineReport z f) ≡ length (titleText z (length f)) + length (stretchesText (nesting.records (bright.stretches f)))
   unfolding lineReport
-  report-length = length-append (titleText z (length f)) (stretchesText (bright.stretches f))
+  report-length = length-append (titleText z (length f)) (stretchesText (nesting.records (bright.stretches f)))
 
-  pub report-put : {d d₁ d₂ : List ℕ} {r₁ r₂ : ℕ} → Puts d 0 (titleText z (length f)) d₁ r₁ → Puts d₁ r₁ (stretchesText (bright.stretches f)) d₂ r₂ → Puts d 0 (lineReport z f) d₂ r₂
+  pub report-put : {d d₁ d₂ : List ℕ} {r₁ r₂ : ℕ} → Puts d 0 (titleText z (length f)) d₁ r₁ → Puts d₁ r₁ (stretchesText (nesting.records (bright.stretches f))) d₂ r₂ → Puts d 0 (lineReport z f) d₂ r₂
   unfolding lineReport
   report-put p q = puts-join p q
 
-  pub report-fits : length (lineReport z f) ≤ 64 + 86 * length f
+  pub report-fits : length (lineReport z f) ≤ 64 + 107 * length f
   report-fits = omega (arith, report-length, title-most z (length f), stretches-most f)
 
   pub report-some : 0 < length (lineReport z f)
@@ -148,12 +147,12 @@ prints-done {ok} {t} {dst} {dst′} {r} e p fit = rw e (record { bytes = omega (
 pub prints-none : {ok : Bool} (t dst : List ℕ) → ok ≡ false → Prints ok t dst dst 0
 prints-none t dst e = rw e (record { bytes = refl; written = refl })
 
--- 'it prints' L 0 5, Z 1 3 5 3, Z 0 3 3 2, Z 4 5 4 2, Z 0 5 2 0
+-- 'it prints' L 0 5, Z 1 3 5 3, Z 0 3 3 2, Z 4 5 4 2, Z 0 5 2 0; the last fields are 1, 3, 3 and 3
 pub line-example : lineReport (pos 0) (3 ∷ 5 ∷ 5 ∷ 2 ∷ 4 ∷ []) ≡
     76 ∷ 9 ∷ 48 ∷ 9 ∷ 53 ∷ 10
-    ∷ 90 ∷ 9 ∷ 49 ∷ 9 ∷ 51 ∷ 9 ∷ 53 ∷ 9 ∷ 51 ∷ 10
-    ∷ 90 ∷ 9 ∷ 48 ∷ 9 ∷ 51 ∷ 9 ∷ 51 ∷ 9 ∷ 50 ∷ 10
-    ∷ 90 ∷ 9 ∷ 52 ∷ 9 ∷ 53 ∷ 9 ∷ 52 ∷ 9 ∷ 50 ∷ 10
-    ∷ 90 ∷ 9 ∷ 48 ∷ 9 ∷ 53 ∷ 9 ∷ 50 ∷ 9 ∷ 48 ∷ 10 ∷ []
-unfolding lineReport titleText stretchesText fieldsText digits bright.stretches bright.endingAt bright.isStretch bright.stretchOf bright.levelOf extremes.least extremes.greatest tables.each
+    ∷ 90 ∷ 9 ∷ 49 ∷ 9 ∷ 51 ∷ 9 ∷ 53 ∷ 9 ∷ 51 ∷ 9 ∷ 49 ∷ 10
+    ∷ 90 ∷ 9 ∷ 48 ∷ 9 ∷ 51 ∷ 9 ∷ 51 ∷ 9 ∷ 50 ∷ 9 ∷ 51 ∷ 10
+    ∷ 90 ∷ 9 ∷ 52 ∷ 9 ∷ 53 ∷ 9 ∷ 52 ∷ 9 ∷ 50 ∷ 9 ∷ 51 ∷ 10
+    ∷ 90 ∷ 9 ∷ 48 ∷ 9 ∷ 53 ∷ 9 ∷ 50 ∷ 9 ∷ 48 ∷ 9 ∷ 51 ∷ 10 ∷ []
+unfolding lineReport titleText stretchesText fieldsText digits nesting.records nesting.shortest bright.stretches bright.endingAt bright.isStretch bright.stretchOf bright.levelOf extremes.least extremes.greatest tables.each
 line-example = refl

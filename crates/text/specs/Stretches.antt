@@ -1,8 +1,8 @@
 -- What the program stretches prints of a line, and what both programs print of a refusal (document 01, 'The two programs').
 --   signedText z           a line number as text
 --   titleText z n          the `L` line of the line z, which has n pixels
---   stretchFields s        the four numbers of a stretch
---   stretchesText ss       the `Z` lines of the stretches ss
+--   stretchFields s        the five numbers of a record
+--   stretchesText ss       the `Z` lines of the records ss
 --   lineReport z f         the text of the line z, whose pixels are f
 --   refusalText n          the text of the refusal n
 --   isPrintable z f room   the line z, whose pixels are f, has at most 4,096, and its text has room in `room` bytes
@@ -19,8 +19,9 @@ use lib.ListN.{length}
 use lib.Signed.{ltZ}
 use Rattle.lists.specs.Stores.{front}
 use Rattle.answer.specs.Limits.{longest}
-use Rattle.bright.specs.declared.Stretch.{Stretch}
+use Rattle.bright.specs.declared.Nested.{Nested}
 use Rattle.bright.specs.Stretches.{stretches}
+use Rattle.bright.specs.Nesting.{records}
 use Rattle.text.specs.Decimal.{decimal}
 use Rattle.text.specs.Lines.{tab, feed, lineText}
 
@@ -32,16 +33,16 @@ signedText z = cond (ltZ z (pos 0)) (45 ∷ decimal (natAbs z)) (decimal (natAbs
 unfoldable pub titleText : ℤ → ℕ → List ℕ
 titleText z n = (76 ∷ tab ∷ []) ++ (signedText z ++ ((tab ∷ decimal n) ++ (feed ∷ [])))
 
--- 'its `Z` lines: start, end, level, base'
-abbrev pub stretchFields : Stretch → List ℕ
-stretchFields s = s .start ∷ s .end ∷ s .level ∷ s .base ∷ []
+-- 'its `Z` lines: start, end, level, base', and of the fifth number (document 02, order 1): '`Z` lines gain it as their last field'
+abbrev pub stretchFields : Nested → List ℕ
+stretchFields s = s .stretch .start ∷ s .stretch .end ∷ s .stretch .level ∷ s .stretch .base ∷ s .encloser ∷ []
 
-unfoldable pub stretchesText : List Stretch → List ℕ
+unfoldable pub stretchesText : List Nested → List ℕ
 stretchesText [] = []
 stretchesText (s ∷ ss) = lineText 90 (stretchFields s) ++ stretchesText ss
 
 unfoldable pub lineReport : ℤ → List ℕ → List ℕ
-lineReport z f = titleText z (length f) ++ stretchesText (stretches f)
+lineReport z f = titleText z (length f) ++ stretchesText (records (stretches f))
 
 -- 'A refusal prints `E` and the number only.'
 abbrev pub refusalText : ℕ → List ℕ

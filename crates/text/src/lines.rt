@@ -17,8 +17,8 @@ fn field_bytes(v: u64) -> usize
 
 // The bytes of a line with these fields.
 pub(crate) fn line_bytes(fields: &[u64]) -> usize
-    requires { ⌜ length (now fields) ≤ 4 ⌝ }
-    ensures { λ r. ⌜ (r ≡ length (lineText 0 (now (fields .entry)))) × (r ≤ 86) ⌝ }
+    requires { ⌜ length (now fields) ≤ 5 ⌝ }
+    ensures { λ r. ⌜ (r ≡ length (lineText 0 (now (fields .entry)))) × (r ≤ 107) ⌝ }
 {
     let mut bytes: usize = 2;
     let mut i: usize = 0;

@@ -8,17 +8,19 @@ use crate::lines::put_line;
 use answer::LONGEST;
 use stretch::Stretch;
 use stretch::begin;
+use stretch::enclosers;
 use stretch::next;
 ghost use mathlib.Core.Path.{_≡_};
 ghost use Prim.Native.Nat.{_+_, _*_, _≤_, _<_, _^_};
 ghost use lib.IntN.{natAbs};
-ghost use lib.ListN.{length};
+ghost use lib.ListN.{length, take};
 ghost use Rattle.answer.specs.Limits.{longest};
 ghost use Rattle.bright.specs.Stretches.{stretches};
+ghost use Rattle.bright.specs.Nesting.{nested, records, enclosersOf};
 ghost use Rattle.text.specs.Lines.{Puts};
 ghost use Rattle.text.specs.Stretches.{signedText, titleText, stretchFields, stretchesText, PrintsLine, PrintsRefusal};
 
-// The bytes of the open runs of a reading: four a pixel of the longest line.
+// The bytes of the open runs of a reading, and those that `enclosers` asks for: four a pixel of the longest line.
 const RUNS: usize = 4 * LONGEST;
 
 // The size of a number, without its sign. The smallest number has no negation that fits, so 1 is added before the sign is turned and again after.
@@ -74,45 +76,62 @@ fn wide(x: u16) -> u64
     x as u64
 }
 
-fn stretch_fields(s: Stretch) -> [u64; 4]
-    ensures { λ r. ⌜ r ≡ stretchFields s ⌝ }
+// The fields of a `Z` line: the four numbers of a stretch, and the place of its encloser.
+fn stretch_fields(s: Stretch, encloser: u16) -> [u64; 5]
+    ensures { λ r. ⌜ r ≡ stretchFields (nested s encloser) ⌝ }
 {
-    [wide(s.start), wide(s.end), wide(s.level), wide(s.base)]
+    [
+        wide(s.start),
+        wide(s.end),
+        wide(s.level),
+        wide(s.base),
+        wide(encloser),
+    ]
 }
 
-// The bytes of the `Z` lines of a line. The reading has its open runs in `runs`.
-fn stretches_bytes(line: &[Pixel], runs: &mut [u8]) -> usize
-    requires { ⌜ (length (now line) ≤ longest) × (4 * length (now line) ≤ length (now runs)) ⌝ }
-    ensures { λ r. ⌜ r ≡ length (stretchesText (stretches (now (line .entry)))) ⌝ }
+// The bytes of the `Z` lines of a line. The places of the enclosers, in the order of the list, stand at the front of `places`; the reading has its open runs in `runs`.
+fn stretches_bytes(line: &[Pixel], places: &[u16], runs: &mut [u8]) -> usize
+    requires { ⌜ (length (now line) ≤ longest) × (4 * length (now line) ≤ length (now runs)) × (take (length (stretches (now line))) (now places) ≡ enclosersOf (stretches (now line))) ⌝ }
+    ensures { λ r. ⌜ r ≡ length (stretchesText (records (stretches (now (line .entry))))) ⌝ }
 {
     let mut bytes: usize = 0;
     let mut bookmark = begin();
+    let mut i: usize = 0;
     loop {
         let step = next(line, runs, bookmark);
         if !step.found {
             return bytes;
         }
-        let fields = stretch_fields(step.stretch);
+        let fields = stretch_fields(step.stretch, places[i]);
         bytes += line_bytes(&fields);
         bookmark = step.bookmark;
+        i += 1;
     }
 }
 
-// Writes the `Z` lines of a line at `at`. Hands back where the next byte goes. The reading has its open runs in `runs`.
-fn put_stretches(dst: &mut [u8], at: usize, line: &[Pixel], runs: &mut [u8]) -> usize
-    requires { ⌜ (length (now line) ≤ longest) × (4 * length (now line) ≤ length (now runs)) × (at + length (stretchesText (stretches (now line))) ≤ length (now dst)) ⌝ }
-    ensures { λ r. ⌜ Puts (now (dst .entry)) at (stretchesText (stretches (now (line .entry)))) (now (dst .exit)) r ⌝ }
+// Writes the `Z` lines of a line at `at`. Hands back where the next byte goes. `places` and `runs` are as for `stretches_bytes`.
+fn put_stretches(
+    dst: &mut [u8],
+    at: usize,
+    line: &[Pixel],
+    places: &[u16],
+    runs: &mut [u8],
+) -> usize
+    requires { ⌜ (length (now line) ≤ longest) × (4 * length (now line) ≤ length (now runs)) × (take (length (stretches (now line))) (now places) ≡ enclosersOf (stretches (now line))) × (at + length (stretchesText (records (stretches (now line)))) ≤ length (now dst)) ⌝ }
+    ensures { λ r. ⌜ Puts (now (dst .entry)) at (stretchesText (records (stretches (now (line .entry))))) (now (dst .exit)) r ⌝ }
 {
     let mut end = at;
     let mut bookmark = begin();
+    let mut i: usize = 0;
     loop {
         let step = next(line, runs, bookmark);
         if !step.found {
             return end;
         }
-        let fields = stretch_fields(step.stretch);
+        let fields = stretch_fields(step.stretch, places[i]);
         end = put_line(dst, end, b'Z', &fields);
         bookmark = step.bookmark;
+        i += 1;
     }
 }
 
@@ -125,14 +144,17 @@ pub fn line_text(z: i64, line: &[Pixel], dst: &mut [u8]) -> usize
     if LONGEST < line.len() {
         return 0;
     }
+    let mut places = [0u16; LONGEST];
     let mut runs = [0u8; RUNS];
+    // Places and scratch are enough for every line that comes so far, so they are all found.
+    enclosers(line, &mut places, &mut runs);
     let title = title_bytes(z, line.len());
-    let bytes = title + stretches_bytes(line, &mut runs);
+    let bytes = title + stretches_bytes(line, &places, &mut runs);
     if dst.len() < bytes {
         return 0;
     }
     let end = put_title(dst, z, line.len());
-    put_stretches(dst, end, line, &mut runs)
+    put_stretches(dst, end, line, &places, &mut runs)
 }
 
 // Writes what both programs print of a refusal to the front of dst. Hands back its bytes; where they have no room, 0, and nothing changes.

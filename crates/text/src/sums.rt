@@ -39,7 +39,7 @@ fn rest_fields(sums: &[u64]) -> [u64; 1]
 // The bytes of the lines of n bins.
 fn bins_bytes(sums: &[u64], n: usize) -> usize
     requires { ⌜ (n < length (now sums)) × (n ≤ longest) ⌝ }
-    ensures { λ r. ⌜ (r ≡ length (binsText (now (sums .entry)) n)) × (r ≤ 86 * n) ⌝ }
+    ensures { λ r. ⌜ (r ≡ length (binsText (now (sums .entry)) n)) × (r ≤ 107 * n) ⌝ }
 {
     let mut bytes: usize = 0;
     let mut i: usize = 0;

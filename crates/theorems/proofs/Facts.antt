@@ -46,7 +46,7 @@ darkest-is f i L some fit = record { below = λ j lo hi. darkest-le f i L j fit 
     go : (w : List ℕ) → window f i L ≡ w → (j : ℕ) × (i ≤ j) × (j < i + L) × (getD f j 0 ≡ darkest f i L)
     go [] e = absurd (omega (arith, length-window f i L fit, ap length e))
     go (v ∷ vs) e =
-        let r = mem-at (darkest f i L) (window f i L) (rw e (least-in v vs)) in
+        let r = mem-at 0 (darkest f i L) (window f i L) (rw e (least-in v vs)) in
         let l : r .0 < L = omega (arith, r .1, length-window f i L fit) in
         (i + r .0, omega arith, omega arith, sym (getD-take L (drop i f) (r .0) 0 l ∙ getD-drop i f (r .0) 0) ∙ r .2)
 

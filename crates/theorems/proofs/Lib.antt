@@ -4,7 +4,7 @@
 --   Refusals      demand 1: a call is done if and only if no rule is broken; a refused one changes nothing
 --   Openings      demand 2: openings, erosion, dilation, the highest over sixteen directions and its direction, value by value; the lent row
 --   Sums          demand 2: size sums, the rose, the summary
---   Stretches     demand 3: the list of bright stretches; openings and size sums from it
+--   Stretches     demand 3: the list of bright stretches; openings and size sums from it; its fifth numbers
 --   Texts         the sums text and the programs: what is written and read, the example byte for byte
 --   Outcomes      one input allows one outcome; Engines: the same of the calls that only other crates of the library make
 --   Facts         why the computing definitions say what specs/Equation says in facts

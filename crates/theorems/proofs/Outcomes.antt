@@ -3,7 +3,7 @@
 --   erode-once, dilate-once, open-line-once
 --   gather-once, scatter-once, raise-once, row-once
 --   open-frame-once, highest-once, directions-once, host-once
---   list-once, next-once
+--   list-once, next-once, enclosers-once
 --   sums-of-line-once, sums-of-frame-once, rose-once
 --   sums-text-once, read-input-once, line-text-once, refusal-text-once
 -- The contract of every other call is an equation `answer ≡ definition`, which one value alone meets: `lines_of`, `line_number`, `sweep_of`, `track_of`,
@@ -35,12 +35,13 @@ use Rattle.opening.specs.Sixteen.{FindsHighest}
 use Rattle.opening.specs.Directions.{FindsDirections}
 use Rattle.opening.specs.Host.{HostOpens}
 use Rattle.opening.proofs.Laws as opening
-use Rattle.bright.specs.declared.Stretch.{Stretch}
+use Rattle.bright.specs.declared.Nested.{Nested}
 use Rattle.bright.specs.declared.Bookmark.{Bookmark}
 use Rattle.bright.specs.declared.Step.{Step}
 use Rattle.bright.specs.Generator.{Layout, coming, Follows}
+use Rattle.bright.specs.Nesting.{NestsLine}
 use Rattle.bright.specs.Listing.{ListsLine}
-use Rattle.bright.proofs.Once.{lists-once, follows-once}
+use Rattle.bright.proofs.Once.{lists-once, follows-once, nests-once}
 use Rattle.sizes.specs.Sums.{lineSums, frameSums}
 use Rattle.sizes.specs.Line.{SumsLine}
 use Rattle.sizes.specs.Frame.{SumsFrame}
@@ -105,7 +106,7 @@ module _ {f : List ℕ} {sh : Shape} {L : ℕ} {g g₁ g₂ t t₁ t₂ : List �
 
 -- ---- stretches
 
-pub list-once : {f : List ℕ} {table table₁ table₂ : List Stretch} {t t₁ t₂ : List ℕ} {a₁ a₂ : Answer} → ListsLine f table table₁ t t₁ a₁
+pub list-once : {f : List ℕ} {table table₁ table₂ : List Nested} {t t₁ t₂ : List ℕ} {a₁ a₂ : Answer} → ListsLine f table table₁ t t₁ a₁
     → ListsLine f table table₂ t t₂ a₂ → (a₁ ≡ a₂) × (table₁ ≡ table₂)
 list-once = lists-once
 
@@ -113,6 +114,9 @@ list-once = lists-once
 pub next-once : {run : Layout} {f t : List ℕ} {p : Bookmark} {t₁ t₂ : List ℕ} {r₁ r₂ : Step} → Follows run f t p t₁ r₁ → Follows run f t p t₂ r₂
     → (r₁ ≡ r₂) × (coming run f t₁ (r₁ .bookmark) ≡ coming run f t₂ (r₂ .bookmark))
 next-once = follows-once
+
+pub enclosers-once : {f p p₁ p₂ t t₁ t₂ : List ℕ} {r₁ r₂ : ℕ} → NestsLine f p p₁ t t₁ r₁ → NestsLine f p p₂ t t₂ r₂ → (r₁ ≡ r₂) × (p₁ ≡ p₂)
+enclosers-once = nests-once
 
 -- ---- size sums
 

@@ -31,7 +31,7 @@ use Rattle.opening.specs.Sixteen.{highestRules, FindsHighest}
 use Rattle.opening.specs.Directions.{directionRules, FindsDirections}
 use Rattle.opening.specs.Host.{HostOpens}
 use Rattle.opening.proofs.Calls.{open-figure}
-use Rattle.bright.specs.declared.Stretch.{Stretch}
+use Rattle.bright.specs.declared.Nested.{Nested}
 use Rattle.bright.specs.Stretches.{stretches}
 use Rattle.bright.specs.Listing.{listRules, ListsLine}
 use Rattle.sizes.specs.Line.{lineRules, SumsLine}
@@ -133,7 +133,7 @@ module _ {f : List ℕ} {sh : Shape} {L : ℕ} {g g′ t t′ : List ℕ} where
       let below = open-figure sh L (length f) (length g) (length t) d in
       (omega (arith, p .gives, small, below), omega (arith, p .gives, small, below))
 
-pub list-settled : {f : List ℕ} {table table′ : List Stretch} {t t′ : List ℕ} {a : Answer} → ListsLine f table table′ t t′ a
+pub list-settled : {f : List ℕ} {table table′ : List Nested} {t t′ : List ℕ} {a : Answer} → ListsLine f table table′ t t′ a
     → Settled (listRules (length f) (length t) (length table) (length (stretches f))) (length (stretches f)) a ((table′ ≡ table) × (t′ ≡ t))
 list-settled {table = table} {a = a} p = settled _ _ refl (p .answers) (λ r. (p .written ∙ after-refused a _ table r, p .scratch-kept r))
 

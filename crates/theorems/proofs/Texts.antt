@@ -67,7 +67,7 @@ example-sums-text {dst} p z =
 -- ---- what is printed of a line and of a refusal
 
 module _ {z : ℤ} {f dst dst′ : List ℕ} {n : ℕ} (p : PrintsLine z f dst dst′ n) where
-  -- '`L`, line number, pixel count, then its `Z` lines: start, end, level, base'; no text has 0 bytes
+  -- '`L`, line number, pixel count, then its `Z` lines: start, end, level, base'; of the fifth number: '`Z` lines gain it as their last field'; no text has 0 bytes
   pub line-text-is : length f ≤ longest → length (lineReport z f) ≤ length dst → (dst′ ≡ front (lineReport z f) dst) × (n ≡ length (lineReport z f)) × (0 < n)
   line-text-is short fit =
       let ok = printable z f (length dst) short fit in
@@ -79,8 +79,8 @@ module _ {z : ℤ} {f dst dst′ : List ℕ} {n : ℕ} (p : PrintsLine z f dst d
       let not = ⊎-elim (too-long z f (length dst)) (no-room z f (length dst)) why in
       (p .text .bytes ∙ rw not, p .text .written ∙ rw not)
 
--- 64 bytes, and 86 a pixel, are always room enough: an `L` line has at most 64, a `Z` line at most 86, and a line no more stretches than pixels
-pub line-text-room : (z : ℤ) (f : List ℕ) → length (lineReport z f) ≤ 64 + 86 * length f
+-- 64 bytes, and 107 a pixel, are always room enough: an `L` line has at most 64, a `Z` line at most 107, and a line no more stretches than pixels
+pub line-text-room : (z : ℤ) (f : List ℕ) → length (lineReport z f) ≤ 64 + 107 * length f
 line-text-room = report-fits
 
 -- the line 3 5 5 2 4, which is number 0

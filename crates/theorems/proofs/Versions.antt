@@ -6,6 +6,9 @@
 --   highest-dark, highest-unwritten, directions-dark, directions-unwritten    the highest opening or its directions, 0 everywhere or not written
 --   first-row-only, first-line-only   a frame opening that treats its first line and copies the rest, along and on the diagonal
 --   count-invented, whole-line-only   a listing with an invented count, or with only the whole line
+--   longest-encloser, next-whatever, own-place, from-one    a fifth number that is the place of the longest encloser, of the next record whatever it is, of the record itself, or
+--                                     is counted from 1
+--   enclosers-unwritten, enclosers-reversed    the call `enclosers` where it writes no place, or the places in the opposite order
 --   bookmark-invented                 a step of a reading that hands back another bookmark
 --   across-for-along, rows-exchanged, numbers-exchanged    results filed under the other's direction: of a frame opening, the rose and the direction frame
 --   tie-to-last                       a tie given to the last
@@ -13,7 +16,7 @@
 -- Assumes nothing.
 use mathlib.Core.Path.{_≡_, refl, sym, ap, _∙_}
 use mathlib.Core.Bool.{true}
-use mathlib.Core.List.{List, [], _∷_}
+use mathlib.Core.List.{List, [], _∷_, map}
 use Prim.Native.Nat.{ℕ, _+_, _-_, _*_, _^_}
 use native.Mathlib.Omega.{arith}
 use lib.IntN.{pos}
@@ -42,12 +45,14 @@ use Rattle.opening.specs.Frames.{OpensFrame}
 use Rattle.opening.specs.Sixteen.{FindsHighest}
 use Rattle.opening.specs.Directions.{FindsDirections}
 use Rattle.opening.specs.Host.{HostOpens}
-use Rattle.bright.specs.declared.Stretch.{Stretch}
+use Rattle.bright.specs.declared.Nested.{Nested}
 use Rattle.bright.specs.declared.Step.{Step}
 use Rattle.bright.specs.Reading.{stepFrom}
 use Rattle.bright.specs.Generator.{run8, stackOf, beginning, Follows}
 use Rattle.bright.specs.Stretches as stretching
 use Rattle.bright.specs.Stretches.{stretches}
+use Rattle.bright.specs.Nesting as nesting
+use Rattle.bright.specs.Nesting.{records, NestsLine}
 use Rattle.bright.specs.Listing.{ListsLine}
 use Rattle.sizes.specs.Sums.{frameSums}
 use Rattle.sizes.specs.Line.{SumsLine}
@@ -160,10 +165,10 @@ unfolding summaryOf extremes.total weighted
 refusing-summary e refused = refused (ap (λ (r : Summary). r .number) e)
 
 -- a table of as many entries as the line 3 5 5 2 4 has stretches
-abbrev blank : List Stretch
-blank = replicate 4 (s 0 0 0 0)
+abbrev blank : List Nested
+blank = replicate 4 (s 0 0 0 0 0)
 
-pub refusing-list : {table′ : List Stretch} {t′ : List ℕ} {a : Answer} → ListsLine line blank table′ spare t′ a → Refused a → ⊥
+pub refusing-list : {table′ : List Nested} {t′ : List ℕ} {a : Answer} → ListsLine line blank table′ spare t′ a → Refused a → ⊥
 unfolding tables.each extremes.least extremes.greatest stretching.levelOf stretching.isStretch stretching.stretchOf stretching.endingAt stretching.stretches
 refusing-list p = answered (p .answers) refl
 
@@ -248,19 +253,55 @@ module _ {t′ : List ℕ} {a : Answer} where
 
 -- ---- 'a listing with an invented count or only the whole line (demand 3)'
 
-module _ {table′ : List Stretch} {t′ : List ℕ} {a : Answer} where
+module _ {table′ : List Nested} {t′ : List ℕ} {a : Answer} where
   -- the count is 4, and nothing else
   pub count-invented : (n : ℕ) → (n ≡ 4 → ⊥) → ListsLine line blank table′ spare t′ a → a ≡ done n → ⊥
   unfolding tables.each extremes.least extremes.greatest stretching.levelOf stretching.isStretch stretching.stretchOf stretching.endingAt stretching.stretches
   count-invented n not-four p e = not-four (ap (λ (a : Answer). a .figure) (sym e ∙ p .answers))
 
-pub whole-line-only : {rest : List Stretch} {t′ : List ℕ} {a : Answer} → ListsLine line blank (s 0 5 2 0 ∷ rest) spare t′ a → ⊥
-unfolding tables.each extremes.least extremes.greatest stretching.levelOf stretching.isStretch stretching.stretchOf stretching.endingAt stretching.stretches
-whole-line-only {rest} p =
-    let e : s 0 5 2 0 ∷ rest ≡ s 1 3 5 3 ∷ s 0 3 3 2 ∷ s 4 5 4 2 ∷ s 0 5 2 0 ∷ [] =
-    p .written ∙ ap (λ (a : Answer). after a (front (stretches line) blank) blank) (p .answers) in
-    let first : _≡_ {A = ℕ} 0 1 = ap (λ (l : List Stretch). getD l 0 (s 0 0 0 0) .start) e in
+-- the four stretches of the line, with the fifth numbers i, j, k and l
+abbrev withFifths : ℕ → ℕ → ℕ → ℕ → List Nested
+withFifths i j k l = s 1 3 5 3 i ∷ s 0 3 3 2 j ∷ s 4 5 4 2 k ∷ s 0 5 2 0 l ∷ []
+
+-- what the contract asks for
+listed-line : {table′ : List Nested} {t′ : List ℕ} {a : Answer} → ListsLine line blank table′ spare t′ a → table′ ≡ withFifths 1 3 3 3
+unfolding tables.each extremes.least extremes.greatest stretching.levelOf stretching.isStretch stretching.stretchOf stretching.endingAt stretching.stretches nesting.shortest nesting.records
+listed-line p = p .written ∙ ap (λ (a : Answer). after a (front (records (stretches line)) blank) blank) (p .answers)
+
+pub whole-line-only : {e : ℕ} {rest : List Nested} {t′ : List ℕ} {a : Answer} → ListsLine line blank (s 0 5 2 0 e ∷ rest) spare t′ a → ⊥
+whole-line-only p =
+    let first : _≡_ {A = ℕ} 0 1 = ap (λ (l : List Nested). getD l 0 (s 0 0 0 0 0) .stretch .start) (listed-line p) in
     omega (arith, first)
+
+-- ---- 'exactly one value is right for each record'
+
+fifths-are : {table′ : List Nested} {t′ : List ℕ} {a : Answer} → ListsLine line blank table′ spare t′ a → map (λ (r : Nested). r .encloser) table′ ≡ 1 ∷ 3 ∷ 3 ∷ 3 ∷ []
+fifths-are p = ap (map (λ (r : Nested). r .encloser)) (listed-line p)
+
+module _ {t′ : List ℕ} {a : Answer} where
+  pub longest-encloser : ListsLine line blank (withFifths 3 3 3 3) spare t′ a → ⊥
+  longest-encloser p = differ 0 (λ e. omega arith) (fifths-are p)
+
+  pub next-whatever : ListsLine line blank (withFifths 1 2 3 3) spare t′ a → ⊥
+  next-whatever p = differ 1 (λ e. omega arith) (fifths-are p)
+
+  pub own-place : ListsLine line blank (withFifths 0 1 2 3) spare t′ a → ⊥
+  own-place p = differ 0 (λ e. omega arith) (fifths-are p)
+
+  pub from-one : ListsLine line blank (withFifths 2 4 4 4) spare t′ a → ⊥
+  from-one p = differ 0 (λ e. omega arith) (fifths-are p)
+
+-- the same places from `enclosers`, which has room for one a pixel
+nested-line : {g′ t′ : List ℕ} {r : ℕ} → NestsLine line nines g′ spare t′ r → g′ ≡ 1 ∷ 3 ∷ 3 ∷ 3 ∷ 9 ∷ []
+unfolding tables.each extremes.least extremes.greatest stretching.levelOf stretching.isStretch stretching.stretchOf stretching.endingAt stretching.stretches nesting.shortest nesting.enclosersOf
+nested-line p = p .written
+
+module _ {t′ : List ℕ} {r : ℕ} where
+  pub enclosers-unwritten : NestsLine line nines nines spare t′ r → ⊥
+  enclosers-unwritten p = differ 0 (λ e. omega arith) (nested-line p)
+
+  pub enclosers-reversed : NestsLine line nines (3 ∷ 3 ∷ 3 ∷ 1 ∷ 9 ∷ []) spare t′ r → ⊥
+  enclosers-reversed p = differ 0 (λ e. omega arith) (nested-line p)
 
 -- after the first step the pixels 3 5 5 are read, and the run of 3 is open
 pub bookmark-invented : {t′ : List ℕ} {r : Step} → (r .bookmark ≡ record { read = 3; depth = 1 } → ⊥) → Follows run8 line spare beginning t′ r → ⊥

@@ -12,6 +12,10 @@ fn wide(x: u8) -> u64 {
     x as u64
 }
 
+fn wide_place(x: u16) -> u64 {
+    x as u64
+}
+
 fn seeded(seed: u64) -> u64 {
     step(std::num::wrapping_add_u64(seed, 88172645463325252))
 }
@@ -125,6 +129,18 @@ pub(crate) fn fill_sums(sums: &mut [u64], n: usize, kind: u64, seed: u64) {
     }
 }
 
+// Fills the first n places with noise.
+pub(crate) fn fill_places(places: &mut [u16], n: usize, seed: u64) {
+    let end = least(n, places.len());
+    let mut s = seeded(seed);
+    let mut i = 0;
+    while i < end {
+        s = step(s);
+        places[i] = (s % 65536) as u16;
+        i += 1;
+    }
+}
+
 // A checksum with one number more in it.
 pub(crate) fn mixed(check: u64, x: u64) -> u64 {
     step(std::num::wrapping_add_u64(check, x))
@@ -149,6 +165,18 @@ pub(crate) fn check_sums(before: u64, sums: &[u64], n: usize) -> u64 {
     let mut i = 0;
     while i < end {
         check = mixed(check, sums[i]);
+        i += 1;
+    }
+    check
+}
+
+// The checksum of the first n places.
+pub(crate) fn check_places(places: &[u16], n: usize) -> u64 {
+    let end = least(n, places.len());
+    let mut check = 1;
+    let mut i = 0;
+    while i < end {
+        check = mixed(check, wide_place(places[i]));
         i += 1;
     }
     check

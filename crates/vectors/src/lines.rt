@@ -1,10 +1,16 @@
 // The calls on a line.
+use crate::draw::check_places;
+use crate::draw::fill_places;
+use crate::draw::least;
 use crate::draw::mixed;
 use crate::got::Got;
 use crate::got::answered;
 use crate::got::counted;
+use crate::got::flag;
 use crate::got::nothing;
+use crate::guarded;
 use crate::input::Case;
+use crate::shifted;
 use stretch::Stretch;
 
 fn check_stretch(check: u64, z: Stretch) -> u64 {
@@ -38,6 +44,25 @@ fn stretches(src: &[u8], scratch: &mut [u8]) -> Got {
     }
 }
 
+// The fifth numbers of the stretches: how many are handed back, and the checksum of the places lent and the eight behind them. The number is 1 where 0 is handed back: then the scratch is compared too.
+fn enclosers(c: Case, src: &[u8], places: &mut [u16], scratch: &mut [u8]) -> Got {
+    let n = least(c.dst, places.len());
+    let found = stretch::enclosers(src, &mut places[..n], scratch);
+    Got {
+        number: flag(found == 0),
+        figure: found as u64,
+        first: check_places(places, guarded(c.dst)),
+        second: 0,
+    }
+}
+
+// Lends the places: 4,104 at most, and eight more behind them. They hold noise.
+fn lend_places(c: Case, src: &[u8], scratch: &mut [u8]) -> Got {
+    let mut places = [0u16; 4112];
+    fill_places(&mut places, guarded(c.dst), shifted(c.seed, 4));
+    enclosers(c, src, &mut places, scratch)
+}
+
 pub(crate) fn call(c: Case, src: &[u8], dst: &mut [u8], scratch: &mut [u8]) -> Got {
     let which = c.call;
     match which {
@@ -46,6 +71,7 @@ pub(crate) fn call(c: Case, src: &[u8], dst: &mut [u8], scratch: &mut [u8]) -> G
         3 => answered(line::open_line(src, c.length, dst, scratch)),
         4 => stretches(src, scratch),
         5 => counted(stretch::count(src)),
+        7 => lend_places(c, src, scratch),
         _ => nothing(),
     }
 }

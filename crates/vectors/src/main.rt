@@ -22,7 +22,7 @@ mod totals;
 // The most cases of a file.
 const MOST: usize = 100000;
 
-// A lent buffer and the eight bytes, or sums, behind it: none of those may change.
+// A lent buffer and the eight bytes, sums or places behind it: none of those may change.
 fn guarded(n: usize) -> usize {
     std::num::wrapping_add_usize(n, 8)
 }

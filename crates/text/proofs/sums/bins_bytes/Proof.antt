@@ -13,7 +13,7 @@ use Rattle.text.proofs.sums.bins_bytes.Statement.{statement}
 use Rattle.text.proofs.sums.bins_bytes.Tie as tie
 
 abbrev Inv-loop : tie.InvT-loop
-Inv-loop sums n bytes₀ i₀ bytes i = (i ≤ n) × (bytes ≡ length (binsText sums i)) × (bytes ≤ 86 * i)
+Inv-loop sums n bytes₀ i₀ bytes i = (i ≤ n) × (bytes ≡ length (binsText sums i)) × (bytes ≤ 107 * i)
 
 abbrev μ-loop : tie.MeasureT-loop
 μ-loop sums n bytes₀ i₀ bytes i = n - i
