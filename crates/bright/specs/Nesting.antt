@@ -8,7 +8,7 @@
 --   nested s e           the five numbers of a record: those of the stretch s, and the place e of its encloser
 --   records ss           the list ss, each stretch with the place of its encloser
 --   WholeLine n s        s is the whole line of n pixels
---   ShortestOther ss i j .. j is the place of the shortest other stretch that encloses that at i, as facts
+--   ShortestOther ss i j of the other stretches that enclose that at i, the one at j is the shortest
 --   RightPlace n ss i j  j is right as the fifth number of the record at i, on a line of n pixels
 --   NextLow ss i j       j is the next place after i whose stretch does not start after that at i
 --   enclosersOf ss       the fifth numbers alone

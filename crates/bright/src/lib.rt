@@ -1,5 +1,5 @@
-// The bright stretches of a line, whatever the width of its pixels: what a reading of the line stands at and what it finds. What a bright stretch is, how one reading
-// makes the list, and the laws of both speak of lists of numbers (specs/, proofs/).
+// The bright stretches of a line, whatever the width of its pixels: what a reading of the line stands at and what it finds. What a bright stretch is, which
+// encloses which, how one reading makes the list, and the laws of these speak of lists of numbers (specs/, proofs/).
 
 // A bright stretch: its start, its end, which is not included, its darkest pixel and its brighter neighbour.
 #[repr(C)]
