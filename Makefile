@@ -27,11 +27,11 @@ demo:
 	@cat crates/sums/stdin
 	@echo "stretches: line number and pixel count; start, end, level, base, place of the encloser"
 	@tools/run stretches < crates/stretches/stdin
-	@echo "sums: direction number and bins; length and sum of each bin; rest"
+	@echo "sums: direction number and bins; length as measured along a row and sum of each bin; rest"
 	@tools/run sums < crates/sums/stdin
 	@target/host/chute 3 > target/host/chute.pgm
 	@echo
-	@echo "docs/demo.png: a made picture of the chute, its highest opening with length 41, and the direction that gave it, by hue"
+	@echo "docs/demo.png: a made picture of the chute, its highest opening with length 41 as measured along a row, and the direction that gave it, by hue"
 	@target/host/demo 41 docs/demo.png < target/host/chute.pgm
 
 host:

@@ -1,4 +1,5 @@
 // Opening a frame in the sixteen directions, beside OpenCV, Leptonica and plain C of document 000's stack algorithm; the highest opening beside the sixteen.
+// The library takes a length as measured along a row; every peer opens with as many pixels as it stands for.
 // Every result is compared; a difference is printed and makes the exit status 1. The times go to a file too, for the plot.
 #include "../include/fibre.h"
 #include "library.h"
@@ -59,11 +60,11 @@ static void check_small()
 {
     Frame src = blurred_frame(150, 70, 157);
     Picture scratch(ample(src));
-    for (long length : {1, 2, 5, 21, 64, 70, 71, 101, 150, 151}) {
+    for (long length : {1, 2, 4, 5, 21, 64, 70, 71, 98, 99, 101, 150, 151}) {
         Frame ours(150, 70, 157, 9), opened = ours;
         Leaders leaders = {ours, ours};
         for (int n = 0; n < 16; n++) {
-            naive_open(src, SIXTEEN[n], length, opened);
+            naive_open(src, SIXTEEN[n], pixels_for(SIXTEEN[n], length), opened);
             expect(open(src, SIXTEEN[n], length, ours, scratch) && ours.bytes == opened.bytes, "The opening differs from its definition", SIXTEEN[n], length);
             leaders.follow(n, opened);
         }
@@ -74,10 +75,10 @@ static void check_small()
     }
 }
 
-// Whether `theirs` has the values of `ours` at each pixel whose windows all lie on the picture: the peers let windows leave it.
-template <class Values> bool agree_inside(const Frame &ours, Direction d, long length, Values theirs)
+// Whether `theirs` has the values of `ours` at each pixel whose windows, of so many pixels, all lie on the picture: the peers let windows leave it.
+template <class Values> bool agree_inside(const Frame &ours, Direction d, long pixels, Values theirs)
 {
-    long beside = d.p != 0 ? length - 1 : 0, above = d.q != 0 ? length - 1 : 0;
+    long beside = d.p != 0 ? pixels - 1 : 0, above = d.q != 0 ? pixels - 1 : 0;
     for (long y = above; y < ours.height - above; y++)
         for (long x = beside; x < ours.width - beside; x++)
             if (ours.at(x, y) != theirs(x, y))
@@ -114,17 +115,18 @@ struct Bench {
 Times Bench::measure(Direction d, long length)
 {
     Times t = {NONE, NONE, NONE, NONE};
+    long pixels = pixels_for(d, length);
     t.ours = time([&] { expect(open(src, d, length, ours, scratch), "The opening is refused", d, length); });
-    t.stack = time([&] { stack_open_frame(src.bytes.data(), src.width, src.height, src.stride, d.p, d.q, length, theirs.bytes.data()); });
+    t.stack = time([&] { stack_open_frame(src.bytes.data(), src.width, src.height, src.stride, d.p, d.q, pixels, theirs.bytes.data()); });
     expect(ours.bytes == theirs.bytes, "The stack's opening differs", d, length);
-    cv::Mat kernel = opencv_segment(d, length);
+    cv::Mat kernel = opencv_segment(d, pixels);
     t.opencv = time([&] { opencv_open(src, kernel, theirs); });
     bool straight = d.p == 0 || d.q == 0;
     if (straight || std::abs(d.p) == std::abs(d.q)) // else the rounded segment's shape depends on where it lies
-        expect(agree_inside(ours, d, length, [&](long x, long y) { return theirs.at(x, y); }), "OpenCV's opening differs", d, length);
+        expect(agree_inside(ours, d, pixels, [&](long x, long y) { return theirs.at(x, y); }), "OpenCV's opening differs", d, length);
     if (straight) {
-        t.leptonica = time([&] { leptonica.open(d, length); });
-        expect(agree_inside(ours, d, length, [&](long x, long y) { return leptonica.at(x, y); }), "Leptonica's opening differs", d, length);
+        t.leptonica = time([&] { leptonica.open(d, pixels); });
+        expect(agree_inside(ours, d, pixels, [&](long x, long y) { return leptonica.at(x, y); }), "Leptonica's opening differs", d, length);
     }
     return t;
 }
@@ -248,7 +250,8 @@ int main(int argc, char **argv)
     if (argc != 2)
         return 2;
     cv::setNumThreads(1);
-    std::printf("\n## Frames\n\nOpening a frame in each of the sixteen directions with `fibre_open_frame`.\n");
+    std::printf("\n## Frames\n\nOpening a frame in each of the sixteen directions with `fibre_open_frame`. A length is as measured along a row;\n"
+                "every peer opens with as many pixels as it stands for in the direction, 21 for a length of 21 along and across, 16 on the diagonals.\n");
     check_small();
     std::unique_ptr<Bench> benches[2] = {std::make_unique<Bench>(1024, 1024), std::make_unique<Bench>(4096, 4160)};
     for (auto &b : benches)

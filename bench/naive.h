@@ -16,17 +16,17 @@ inline std::map<int64_t, std::vector<long>> naive_lines(const Frame &frame, Dire
     return lines;
 }
 
-// At each pixel the highest, over all windows of `length` pixels that hold it and lie wholly on its line, of the windows' darkest values; 0 where none fits.
-inline void naive_open(const Frame &src, Direction d, long length, Frame &dst)
+// At each pixel the highest, over all windows of so many pixels that hold it and lie wholly on its line, of the windows' darkest values; 0 where none fits.
+inline void naive_open(const Frame &src, Direction d, long pixels, Frame &dst)
 {
     for (auto &[number, line] : naive_lines(src, d)) {
         for (long place : line)
             dst.bytes[place] = 0;
-        for (long from = 0; from + length <= long(line.size()); from++) {
+        for (long from = 0; from + pixels <= long(line.size()); from++) {
             uint8_t darkest = 255;
-            for (long i = from; i < from + length; i++)
+            for (long i = from; i < from + pixels; i++)
                 darkest = std::min(darkest, src.bytes[line[i]]);
-            for (long i = from; i < from + length; i++)
+            for (long i = from; i < from + pixels; i++)
                 dst.bytes[line[i]] = std::max(dst.bytes[line[i]], darkest);
         }
     }

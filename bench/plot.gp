@@ -22,7 +22,7 @@ do for [row = 1:2] {
         side = int(word(sides, row))
         number = int(word(numbers, k))
         set title sprintf("%s, %d x %d", word(names, k), side, side)
-        set xlabel (row == 2 ? "length, pixels" : "")
+        set xlabel (row == 2 ? "length as measured along a row" : "")
         plot data using 3:(spent($4, side, number)) with linespoints lw 3 pt 7 ps 1.3 lc rgb "#c0392b", \
              data using 3:(spent($5, side, number)) with linespoints lw 2 pt 5 ps 1.2 lc rgb "#555555", \
              data using 3:(spent($6, side, number)) with linespoints lw 2 pt 9 ps 1.4 lc rgb "#2471a3", \

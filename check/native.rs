@@ -89,14 +89,16 @@ fn size(job: &mut Job, draws: &mut Draws) {
     }
 }
 
+/// Small frames; one in seven has sides and lengths that reach the first length to mean fewer pixels in each slanted direction that has a number: at (4, 1) that is 35.
 fn job(i: u64, draws: &mut Draws) -> Job {
-    let (width, height) = (draws.within(1, 24), draws.within(1, 24));
+    let (side, longest) = if i % 7 == 1 { (40, 60) } else { (24, 12) };
+    let (width, height) = (draws.within(1, side), draws.within(1, side));
     let (p, q) = match i % 3 {
         0 => (draws.below(511) as i64 - 255, draws.below(511) as i64 - 255),
         _ => NUMBERED[(i % 16) as usize],
     };
     let stride = width + draws.below(4);
-    let mut job = Job { kind: draws.below(7), width, height, stride, p, q, length: draws.within(1, 12), src: 0, dst: 0, scratch: 0 };
+    let mut job = Job { kind: draws.below(7), width, height, stride, p, q, length: draws.within(1, longest), src: 0, dst: 0, scratch: 0 };
     if i % 5 == 0 {
         push(&mut job, draws);
     }
@@ -148,11 +150,14 @@ fn compare(job: &Job, seed: u64) -> Result<u64, String> {
 
 fn main() {
     let mut draws = Draws(88_172_645_463_325_252);
-    let mut by_number = [0; 8];
+    let (mut by_number, mut fewer) = ([0; 8], 0);
     for i in 0..CALLS {
         let job = job(i, &mut draws);
         match compare(&job, i) {
-            Ok(number) => by_number[number as usize] += 1,
+            Ok(number) => {
+                by_number[number as usize] += 1;
+                fewer += (number == 0 && job.direction().pixels_for(job.length) < job.length) as u64;
+            }
             Err(what) => {
                 println!("check/native: call {i}: {what}");
                 std::process::exit(1);
@@ -160,5 +165,5 @@ fn main() {
         }
     }
     let refused: Vec<String> = [1, 2, 3, 5, 6, 7].iter().map(|&n| format!("{n}: {}", by_number[n])).collect();
-    println!("check/native: {CALLS} calls as the definitions have them: {} done; refused by rule {}", by_number[0], refused.join(", "));
+    println!("check/native: {CALLS} calls as the definitions have them: {} done, {fewer} of them with fewer pixels than the length; refused by rule {}", by_number[0], refused.join(", "));
 }

@@ -139,12 +139,24 @@ fn stretches(f: &Frame) -> String {
     out
 }
 
-// The total of a line's pixels opened with windows of `length`.
-fn sum_for(line: &[u8], length: usize) -> u64 {
+// The count of pixels that a length means in a direction: the smallest k from 1 up with (k−1)²·(p²+q²) ≥ (L−1)²·m², m the greater of |p| and |q|.
+// For the lengths 1 to 4, of 3 bins and the rest, it is the length itself in each of the sixteen: inputs tell a count that is too small here, but not one that was never taken.
+fn pixels_for(direction: usize, length: i64) -> usize {
+    let (p, q) = DIRECTIONS[direction];
+    let m = p.abs().max(q.abs());
+    let mut k = 1;
+    while (k - 1) * (k - 1) * (p * p + q * q) < (length - 1) * (length - 1) * m * m {
+        k += 1;
+    }
+    k as usize
+}
+
+// The total of a line's pixels opened with windows of `count` pixels.
+fn sum_for(line: &[u8], count: usize) -> u64 {
     let mut opened = vec![0; line.len()];
-    for window in 0..(line.len() + 1).saturating_sub(length) {
-        let darkest = *line[window..window + length].iter().min().unwrap();
-        for pixel in &mut opened[window..window + length] {
+    for window in 0..(line.len() + 1).saturating_sub(count) {
+        let darkest = *line[window..window + count].iter().min().unwrap();
+        for pixel in &mut opened[window..window + count] {
             *pixel = darkest.max(*pixel);
         }
     }
@@ -153,7 +165,7 @@ fn sum_for(line: &[u8], length: usize) -> u64 {
 
 fn sums(f: &Frame) -> String {
     let all = lines(f);
-    let total: Vec<u64> = (1..=4).map(|l| all.iter().map(|(_, line)| sum_for(line, l)).sum()).collect();
+    let total: Vec<u64> = (1..=4).map(|length| all.iter().map(|(_, line)| sum_for(line, pixels_for(f.direction, length))).sum()).collect();
     let mut out = format!("G\t{}\t3\n", f.direction);
     for i in 0..3 {
         out += &format!("B\t{}\t{}\n", i + 1, total[i] - total[i + 1]);

@@ -19,6 +19,8 @@ mod draw;
 mod marked;
 #[path = "referee/refusals.rs"]
 mod refusals;
+#[path = "referee/slanted_cases.rs"]
+mod slanted_cases;
 #[path = "referee/text_cases.rs"]
 mod text_cases;
 #[path = "referee/texts.rs"]

@@ -8,7 +8,8 @@
 enum { PROMISED = 16 * 1024, PAINT = 0xa5, LONG = 4096, SHORT = 300 };
 
 static const int64_t directions[][2] = {{1, 0}, {4, 1}, {1, 1}, {1, 4}, {0, 1}, {-1, 4}, {-1, 1}, {-4, 1}};
-static const size_t lengths[] = {1, 2, 21, 299, 1500, 4096};
+/* 423 means SHORT pixels at (1, 1): as many as the longest line there has. */
+static const size_t lengths[] = {1, 2, 21, 299, 423, 1500, 4096};
 
 static uint8_t src[LONG * SHORT], dst[LONG * SHORT], scratch[8 * LONG], stack[4 * PROMISED];
 static size_t width, length;

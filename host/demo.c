@@ -185,7 +185,7 @@ static int print_table(const Demo *d)
     uint64_t light = 0, sums[BINS + 1];
     for (size_t i = 0; i < p->bytes; i++)
         light += p->pixels[i];
-    printf("Size sums: how much of the light lies in stretches of so many pixels. Mean length and share are those of lengths 1 to %d\n", BINS);
+    printf("Size sums: how much of the light lies in stretches of each length as measured along a row. Mean length and share are those of lengths 1 to %d\n", BINS);
     printf("direction          1-4       5-8      9-16     17-32     33-64    longer    mean  share\n");
     for (unsigned n = 0; n < DIRECTIONS; n++) {
         Direction by = direction_numbered(n);
@@ -224,7 +224,7 @@ int main(int count, char **words)
     uint64_t length;
     const char *at = count == 3 ? words[1] : "";
     if (!number_read(&at, SIZE_MAX, &length) || *at != '\0') {
-        fprintf(stderr, "usage: demo LENGTH OUT.png <IN.pgm\n");
+        fprintf(stderr, "usage: demo LENGTH OUT.png <IN.pgm (LENGTH as measured along a row)\n");
         return 2;
     }
     const char *wrong = pgm_read(stdin, &d.picture);

@@ -17,9 +17,13 @@ extern "C" {
  *   width, height            in pixels, 1 to 4096 each
  *   stride                   bytes from one row to the next, width to 65535; source and destination share it
  *   p, q                     the direction: p columns to the right for q rows down, each -255 to 255, not both 0
- *   length                   of the segment, in pixels along the line, 1 to 4096
+ *   length                   of the segment, as measured along a row, 1 to 4096
  *   dst, dst_bytes           the destination, of the same shape; bytes between rows and after the last pixel never change
  *   scratch, scratch_bytes   8 * max(width, height) bytes to work in; what they hold afterwards is not settled
+ *
+ * Along a slanted line pixels lie further apart than along a row, so a length may mean fewer of them: the fewest that are at least as long, which is the
+ * smallest count k from 1 up with (k - 1)^2 * (p^2 + q^2) >= (length - 1)^2 * m^2, m the greater of |p| and |q|. A length of 21 means 16 pixels at (1, 1),
+ * 17 at (4, 3), and 21 along and across.
  *
  * Returns 0 when the work is done. Else nothing has been written, in no buffer, and the result is
  *

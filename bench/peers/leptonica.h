@@ -19,10 +19,10 @@ public:
         pixDestroy(&picture);
         pixDestroy(&opened);
     }
-    void open(Direction d, long length)
+    void open(Direction d, long pixels)
     {
         pixDestroy(&opened);
-        opened = pixOpenGray(picture, d.q == 0 ? length : 1, d.q == 0 ? 1 : length);
+        opened = pixOpenGray(picture, d.q == 0 ? pixels : 1, d.q == 0 ? 1 : pixels);
     }
     uint8_t at(long x, long y) const { return GET_DATA_BYTE(pixGetData(opened) + y * pixGetWpl(opened), x); }
 };

@@ -54,18 +54,18 @@ void stack_open(const uint8_t *src, size_t n, size_t length, uint8_t *out)
     memset(out, 0, n);
 }
 
-void stack_open_frame(const uint8_t *src, long width, long height, long stride, long p, long q, long length, uint8_t *out)
+void stack_open_frame(const uint8_t *src, long width, long height, long stride, long p, long q, long pixels, uint8_t *out)
 {
     static struct walk w;
     static uint8_t line[WALK_LONGEST], opened[WALK_LONGEST];
     if (q == 0) {
         for (long y = 0; y < height; y++)
-            stack_open(src + y * stride, width, length, out + y * stride);
+            stack_open(src + y * stride, width, pixels, out + y * stride);
         return;
     }
     walk_begin(&w, width, height, stride, p, q);
     for (long k = w.first; k < w.first + w.lines; k++) {
-        stack_open(line, walk_out(&w, k, src, line), length, opened);
+        stack_open(line, walk_out(&w, k, src, line), pixels, opened);
         walk_in(&w, k, opened, out);
     }
 }

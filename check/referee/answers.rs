@@ -142,6 +142,16 @@ fn looked_up(c: &Case) -> Got {
     }
 }
 
+/// The longest length that `pixels_counted` asks for, one more than the call has an answer for.
+const MOST_ASKED: u64 = 4098;
+
+/// The count of pixels that the case's length means, and the checksum of the counts of every length from 0 up to it, or to the longest asked for.
+fn pixels_counted(c: &Case) -> Got {
+    let d = c.direction();
+    let counts = (0..=c.length.min(MOST_ASKED)).map(|length| d.pixels_for(length));
+    Got { figure: d.pixels_for(c.length), first: check(1, counts), ..Got::default() }
+}
+
 /// 'Gathering a line by its number writes its pixels, in line order, to the front of a destination and hands back their count'
 fn gathered(c: &Case, lent: &mut Lent) -> Got {
     if let Some(refusal) = refusals::gather(c.shape(), c.direction(), c.line, c.src, c.dst) {
@@ -192,8 +202,8 @@ fn summed(c: &Case, lent: &mut Lent) -> Got {
     if let Some(refusal) = refusal {
         return refused(refusal);
     }
-    let lines = if c.call == SUMS_OF_LINE { vec![lent.src.clone()] } else { lines_read(&lent.src, shape, d) };
-    lent.sums[..c.dst as usize].copy_from_slice(&sums(&lines, c.dst - 1));
+    let sums = if c.call == SUMS_OF_LINE { sums_of_line(&lent.src, c.dst - 1) } else { sums_of_frame(&lent.src, shape, d, c.dst - 1) };
+    lent.sums[..c.dst as usize].copy_from_slice(&sums);
     done(0)
 }
 
@@ -242,6 +252,7 @@ fn called(c: &Case, lent: &mut Lent) -> Got {
         ENCLOSERS => enclosers(c, lent),
         ROW => row(c, lent),
         LINES_OF | NUMBER | SHAPE | DIRECTION => looked_up(c),
+        PIXELS_FOR => pixels_counted(c),
         GATHER => gathered(c, lent),
         SCATTER => scattered(c, lent),
         OPEN_FRAME | HIGHEST | DIRECTION_FRAME => frame_opened(c, lent),

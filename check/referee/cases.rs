@@ -3,6 +3,7 @@
 
 use crate::definitions::{lines, stretches as stretches_of, Direction, Shape, NUMBERED};
 use crate::draw::{self, Draws};
+use crate::slanted_cases::{openings_long, openings_slanted, pixels_of_lengths, roses_wide, sums_shared, sums_slanted};
 use crate::text_cases::{inputs_edited, inputs_large, inputs_numbers, inputs_refused, inputs_whole, sums_texts};
 
 /// The calls by their numbers in the case file.
@@ -18,6 +19,7 @@ pub const LINES_OF: u64 = 11;
 pub const DIRECTION: u64 = 12;
 pub const NUMBER: u64 = 13;
 pub const SHAPE: u64 = 14;
+pub const PIXELS_FOR: u64 = 15;
 pub const GATHER: u64 = 20;
 pub const SCATTER: u64 = 21;
 pub const OPEN_FRAME: u64 = 22;
@@ -31,9 +33,10 @@ pub const SUMS_TEXT: u64 = 40;
 pub const READ_INPUT: u64 = 41;
 
 /// The numbers of the calls, with the names that the report gives them.
-pub const CALLS: [(u64, &str); 22] = [
+pub const CALLS: [(u64, &str); 23] = [
     (ERODE, "erosion"), (DILATE, "dilation"), (OPEN_LINE, "opening of a line"), (STRETCHES, "stretches"), (COUNT, "count of stretches"),
     (ENCLOSERS, "enclosers"), (ROW, "row"), (LINES_OF, "lines of a frame"), (DIRECTION, "direction: range, shallow, turned"), (NUMBER, "numbered direction"), (SHAPE, "shape"),
+    (PIXELS_FOR, "pixels of a length"),
     (GATHER, "gathering"), (SCATTER, "scattering"), (OPEN_FRAME, "frame opening"), (HIGHEST, "highest"), (DIRECTION_FRAME, "direction frame"),
     (SUMS_OF_LINE, "sums of a line"), (SUMS_OF_FRAME, "sums of a frame"), (ROSE, "rose and its refusal"), (SUMMARY, "summary"),
     (SUMS_TEXT, "sums text"), (READ_INPUT, "input"),
@@ -45,7 +48,7 @@ const ODD: [(i64, i64); 14] = [
 ];
 
 /// Pairs that are no direction.
-const REFUSED: [(i64, i64); 7] = [(0, 0), (256, 1), (1, -256), (-256, 0), (0, 256), (4096, -4096), (-300, 255)];
+pub const REFUSED: [(i64, i64); 7] = [(0, 0), (256, 1), (1, -256), (-256, 0), (0, 256), (4096, -4096), (-300, 255)];
 
 /// A case as the file has it; `given` is the text of an input, of which the case has `width` bytes, and each of the others is the one `height` before it.
 #[derive(Clone, Default)]
@@ -83,7 +86,7 @@ impl Case {
         format!("{} {} {} {} {} {} {} {}{given}", self.call, self.kind, self.seed, shape, self.p, self.q, self.line, sizes)
     }
 
-    fn at(mut self, (p, q): (i64, i64)) -> Case {
+    pub fn at(mut self, (p, q): (i64, i64)) -> Case {
         (self.p, self.q) = (p, q);
         self
     }
@@ -101,10 +104,15 @@ impl Cases {
         self.list.push(Case { seed, ..case });
     }
 
-    /// A frame of at most `most` pixels a side, its gap at most 3, buffers that just fit or are a little longer, and scratch for every call.
+    /// A frame of at most `most` pixels a side.
     fn frame(&mut self, call: u64, most: u64) -> Case {
+        self.frame_of(call, 1, most)
+    }
+
+    /// A frame of `least` to `most` pixels a side, its gap at most 3, buffers that just fit or are a little longer, and scratch for every call.
+    pub fn frame_of(&mut self, call: u64, least: u64, most: u64) -> Case {
         let d = &mut self.draws;
-        let (width, height) = (d.within(1, most), d.within(1, most));
+        let (width, height) = (d.within(least, most), d.within(least, most));
         let stride = width + d.below(4);
         let bytes = (height - 1) * stride + width;
         let scratch = 8 * width.max(height) + if call == DIRECTION_FRAME { width * height } else { 0 };
@@ -114,7 +122,7 @@ impl Cases {
 }
 
 /// Every pair that is a direction, numbered or odd.
-fn directions() -> Vec<(i64, i64)> {
+pub fn directions() -> Vec<(i64, i64)> {
     NUMBERED.iter().chain(&ODD).copied().collect()
 }
 
@@ -416,13 +424,16 @@ fn fit_table(cases: &mut Cases, n: u64, kind: u64) {
     }
 }
 
-/// All cases, the small ones first, then those of the texts, then the enclosers.
+/// All cases, the small ones first, then those of the texts, then the enclosers, then those of lengths that mean fewer pixels.
 pub fn families() -> Vec<Case> {
     let mut cases = Cases { list: Vec::new(), draws: Draws(20_250_607) };
     for family in [lines_small, stretches_and_rows, lookups, gathers, openings, sums, summaries, frames_refused, lines_refused, frames_strided, lines_long, lines_of_large, frames_large] {
         family(&mut cases);
     }
     for family in [sums_texts, inputs_whole, inputs_edited, inputs_numbers, inputs_refused, inputs_large, enclosers] {
+        family(&mut cases);
+    }
+    for family in [pixels_of_lengths, openings_slanted, openings_long, sums_shared, sums_slanted, roses_wide] {
         family(&mut cases);
     }
     cases.list

@@ -70,6 +70,18 @@ impl Direction {
         if self.in_range() { Direction { p: -self.q, q: self.p } } else { self }
     }
 
+    /// 'k is the smallest count from 1 up with (k−1)²·(p²+q²) ≥ (L−1)²·m², m the greater of |p| and |q|.'
+    /// '0 where the pair is no direction (out of range or (0, 0)), or the length is 0 or above 4,097'
+    pub fn pixels_for(self, length: u64) -> u64 {
+        if !self.is_direction() || !(1..=4097).contains(&length) {
+            return 0;
+        }
+        let (p, q, length) = (self.p.unsigned_abs() as u128, self.q.unsigned_abs() as u128, length as u128);
+        let m = p.max(q);
+        let k = (1u128..).find(|k| (k - 1).pow(2) * (p.pow(2) + q.pow(2)) >= (length - 1).pow(2) * m.pow(2));
+        k.unwrap() as u64
+    }
+
     /// 'Shallow: r(x) = (2·x·|q| + |p|) / (2·|p|), rounded down. Pixel (x, y) is on line y − s·r(x).'
     /// 'Steep: r(y) = (2·y·|p| + |q|) / (2·|q|), rounded down. Pixel (x, y) is on line x − s·r(y).'
     pub fn line_of(self, x: u64, y: u64) -> i64 {
@@ -125,10 +137,11 @@ pub fn opened(line: &[u8], length: u64) -> Vec<u8> {
     result
 }
 
-/// 'A frame is opened line by line in one direction.' The destination's bytes that are no pixel stay.
+/// 'A frame is opened line by line in one direction.' 'For a frame call, length L in direction (p, q) now means k pixels'. The destination's bytes that are no pixel stay.
 pub fn open_frame(src: &[u8], shape: Shape, d: Direction, length: u64, dst: &mut [u8]) {
+    let count = d.pixels_for(length);
     for places in lines(shape, d).values() {
-        let values = opened(&pixels(src, shape, places), length);
+        let values = opened(&pixels(src, shape, places), count);
         for (&(x, y), value) in places.iter().zip(values) {
             dst[shape.place(x, y)] = value;
         }
@@ -197,23 +210,29 @@ fn total(line: &[u8]) -> u64 {
     line.iter().map(|&pixel| pixel as u64).sum()
 }
 
-/// 'The sum for a length is the total of the opened pixels. With K bins .. the bin for a length is the sum for that length less the sum for the next; the rest is the sum for length K+1'
-pub fn sums(lines: &[Vec<u8>], bins: u64) -> Vec<u64> {
-    let sum_for = |length: u64| -> u64 { lines.iter().map(|line| total(&opened(line, length))).sum() };
-    let by_length: Vec<u64> = (1..=bins + 1).map(sum_for).collect();
-    let mut sums: Vec<u64> = by_length.windows(2).map(|pair| pair[0] - pair[1]).collect();
-    sums.push(by_length[bins as usize]);
-    sums
+/// 'With K bins .. the bin for a length is the sum for that length less the sum for the next; the rest is the sum for length K+1': from the sums for 1 to K+1.
+fn bins_and_rest(by_length: &[u64]) -> Vec<u64> {
+    let bins = by_length.windows(2).map(|pair| pair[0] - pair[1]);
+    bins.chain(by_length.last().copied()).collect()
 }
 
-/// The lines of a frame as pixels.
-pub fn lines_read(src: &[u8], shape: Shape, d: Direction) -> Vec<Vec<u8>> {
-    lines(shape, d).values().map(|places| pixels(src, shape, places)).collect()
+/// 'The sum for a length is the total of the opened pixels.' 'Line calls still count pixels.'
+pub fn sums_of_line(line: &[u8], bins: u64) -> Vec<u64> {
+    let by_length: Vec<u64> = (1..=bins + 1).map(|length| total(&opened(line, length))).collect();
+    bins_and_rest(&by_length)
+}
+
+/// The size sums of a frame in one direction 'take the sum for each length with that length's k', and 'the rest with that of K+1'.
+pub fn sums_of_frame(src: &[u8], shape: Shape, d: Direction, bins: u64) -> Vec<u64> {
+    let lines: Vec<Vec<u8>> = lines(shape, d).values().map(|places| pixels(src, shape, places)).collect();
+    let sum_for = |count: u64| -> u64 { lines.iter().map(|line| total(&opened(line, count))).sum() };
+    let by_length: Vec<u64> = (1..=bins + 1).map(|length| sum_for(d.pixels_for(length))).collect();
+    bins_and_rest(&by_length)
 }
 
 /// 'The rose of a frame is sixteen rows of 33 sums .. row d has 32 bins and the rest of numbered direction d.'
 pub fn rose(src: &[u8], shape: Shape) -> Vec<Vec<u64>> {
-    (0..16).map(|n| sums(&lines_read(src, shape, numbered(n)), 32)).collect()
+    (0..16).map(|n| sums_of_frame(src, shape, numbered(n), 32)).collect()
 }
 
 /// 'Let A be the total of the bins and B their total, each multiplied by its length .. the mean, B as a float divided by A as a float, and the share, A divided by A plus the rest.'

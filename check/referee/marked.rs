@@ -1,6 +1,6 @@
-// The marked examples of the specification, P1 to P12, and those of the two programs: the referee holds its own definitions to them before it writes anything.
+// The marked examples of the specification, P1 to P12, and those of the two programs, and the examples of order 2: the referee holds its own definitions to them before it writes anything.
 
-use crate::definitions::{dilated, eroded, lines, nested, opened, sums, Direction, Shape};
+use crate::definitions::{dilated, eroded, lines, nested, opened, sums_of_frame, sums_of_line, Direction, Shape};
 use crate::texts::{input_text, read, sums_text, Input};
 
 const LINE: [u8; 5] = [3, 5, 5, 2, 4];
@@ -33,10 +33,16 @@ fn lines_hold() -> bool {
 fn texts_hold() -> bool {
     let text = "D\t0\nF\t5\t1\nR\t3\t5\t5\t2\t4\n";
     let frame = Input { direction: 0, width: 5, height: 1, pixels: LINE.to_vec() };
-    input_text(&frame) == text && read(text.as_bytes()) == Ok(frame) && sums_text(0, &sums(&[LINE.to_vec()], 3)) == "G\t0\t3\nB\t1\t2\nB\t2\t4\nB\t3\t3\nT\t10\n"
+    input_text(&frame) == text && read(text.as_bytes()) == Ok(frame) && sums_text(0, &sums_of_frame(&LINE, Shape { width: 5, height: 1, stride: 5 }, Direction { p: 1, q: 0 }, 3)) == "G\t0\t3\nB\t1\t2\nB\t2\t4\nB\t3\t3\nT\t10\n"
+}
+
+/// 'L of 21 gives 16 at (1,1), 17 at (4,3), 21 along.'
+fn lengths_hold() -> bool {
+    let examples = [((1, 1), 16), ((4, 3), 17), ((1, 0), 21), ((0, 1), 21)];
+    examples.iter().all(|&((p, q), count)| Direction { p, q }.pixels_for(21) == count)
 }
 
 /// All of them.
 pub fn hold() -> bool {
-    windows_hold() && stretches_hold() && lines_hold() && sums(&[LINE.to_vec()], 3) == [2, 4, 3, 10] && texts_hold()
+    windows_hold() && stretches_hold() && lines_hold() && lengths_hold() && sums_of_line(&LINE, 3) == [2, 4, 3, 10] && texts_hold()
 }

@@ -1,10 +1,11 @@
 -- The laws of frame/specs. What document 01 says of directions, lines and frames:
 --   Directions     the sixteen ascend, and are directions
+--   Lengths        the count of pixels that a length stands for exists and is one; how it grows
 --   Pixels         every pixel is on exactly one line; a line's pixels are an interval, and so are the numbers of the lines
 --   Opposites      (p, q) and (−p, −q) have the same lines
 --   ByLines        a frame treated line by line: one outcome; each pixel has the value at its place on its own line
 --   Light          the totals of a frame's lines add up to the total of its pixels
---   Examples       P11 and P12
+--   Examples       P11 and P12; the lengths of order 2
 -- What the code and the crates above need:
 --   Numbers        line numbers as differences; the index of a number
 --   Rounding       the rounding r
@@ -23,6 +24,7 @@ pub mod Numbers
 pub mod Rounding
 pub mod Signs
 pub mod Shapes
+pub mod Lengths
 pub mod Walks
 pub mod Spans
 pub mod Pixels

@@ -4,6 +4,7 @@
 --   isDirection d     it is in range, and not both numbers are 0
 --   shallow d         it is shallow; else it is steep
 --   goesDown d        its lines go down the rows, one pixel a row: it is steep or a diagonal
+--   straight d        its lines are rows or columns: one of its numbers is 0
 --   opposite d        p and q have opposite signs
 --   sign d            its sign s
 --   turnedOf d        d turned by a quarter
@@ -11,7 +12,7 @@
 --   sixteen           the numbered directions, in their order
 --   numberedOf n      the direction of a number
 --   cross d e         p·v − q·u of d = (p, q) and e = (u, v)
--- Laws: frame/proofs/Directions.
+-- Laws: frame/proofs/Directions, Lengths.
 use mathlib.Core.Bool.{Bool, not, cond, _&&_, _||_}
 use mathlib.Core.List.{List, [], _∷_}
 use Prim.Native.Nat.{ℕ}
@@ -38,6 +39,10 @@ shallow d = leb (natAbs (d .q)) (natAbs (d .p))
 
 abbrev pub goesDown : Direction → Bool
 goesDown d = leb (natAbs (d .p)) (natAbs (d .q))
+
+-- a number that is 0: the lines do not slant, and a length counts their pixels
+abbrev pub straight : Direction → Bool
+straight d = eqb (natAbs (d .p)) 0 || eqb (natAbs (d .q)) 0
 
 -- 'Its sign s is −1 when p and q have opposite signs, else +1.'
 abbrev pub opposite : Direction → Bool

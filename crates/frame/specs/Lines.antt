@@ -9,7 +9,6 @@
 --   place sh c         the byte of pixel c
 --   gathered f sh d k  the bytes of line k in the frame f, in line order
 --   lineRead f sh d k  what a call reads of line k
---   pixelsFor d L      the pixels along a line of direction d that a length L stands for
 --   frameLight f sh    the total of a frame's pixels
 --   climb sh d         how far a line moves aside from one end of the frame to the other
 --   firstLine, lineCount    the lowest line number of a frame, and how many lines it has; linesOf has both
@@ -83,10 +82,6 @@ gathered f sh d k = map (λ (c : Pixel). getD f (place sh c) 0) (pixels sh d k)
 -- what every call that reads a line reads: its pixels as they are
 abbrev pub lineRead : List ℕ → Shape → Direction → ℤ → List ℕ
 lineRead f sh d k = gathered f sh d k
-
--- 'A length L is 1 to 4,096 and counts pixels along the line.'
-abbrev pub pixelsFor : Direction → ℕ → ℕ
-pixelsFor d L = L
 
 -- 'the total of the source pixels', row by row
 abbrev pub frameLight : List ℕ → Shape → ℕ

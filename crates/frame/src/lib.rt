@@ -1,5 +1,6 @@
 // Frames and their lines, by their numbers alone: no call here sees a pixel's value.
 mod direction;
+mod length;
 mod lines;
 mod shape;
 mod signed;

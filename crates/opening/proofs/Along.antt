@@ -1,7 +1,8 @@
 -- Along, a line is a row.
 --   along-opened           an opened pixel, in a direction without a slope, by its row
+--   numbered-along         the same of direction 0, where a length counts the pixels of a row
 -- Assumes nothing.
-use mathlib.Core.Path.{_≡_, sym, ap, ap₂, _∙_}
+use mathlib.Core.Path.{_≡_, refl, sym, ap, ap₂, _∙_}
 use mathlib.Core.Bool.{Bool, true, cond}
 use mathlib.Core.List.{List}
 use Prim.Native.Nat.{ℕ, _-_, _≤_, _<_}
@@ -12,6 +13,7 @@ use Rattle.line.specs.Windows.{opened}
 use Rattle.frame.specs.declared.direction.Direction.{Direction}
 use Rattle.frame.specs.declared.shape.Shape.{Shape}
 use Rattle.frame.specs.declared.sweep.Sweep.{Sweep}
+use Rattle.frame.specs.Direction.{along}
 use Rattle.frame.specs.Shape.{needed}
 use Rattle.frame.specs.Lines.{at, lineRead}
 use Rattle.frame.specs.Sweep.{sweepOf, shift, hit, Accepted}
@@ -19,11 +21,12 @@ use Rattle.frame.specs.Span.{Spans}
 use Rattle.frame.proofs.Walks.{hit-at}
 use Rattle.frame.proofs.Pixels.{number}
 use Rattle.frame.proofs.Spots.{Spot, spot-line, spot-index}
+use Rattle.frame.proofs.Lengths.{pixels-along}
 use Rattle.frame.proofs.Alongs.{flat-shallow, flat-sweep, flat-shift}
 use Rattle.gathering.specs.Rows.{rowOf}
 use Rattle.gathering.proofs.LentRows.{along-row}
 use Rattle.opening.specs.Pixels as opening
-use Rattle.opening.specs.Pixels.{openedPixel}
+use Rattle.opening.specs.Pixels.{openedPixel, inDirection}
 
 module _ (f : List ℕ) (sh : Shape) (d : Direction) (ok : Accepted sh d) (flat : natAbs (d .q) ≡ 0) (fits : needed sh ≤ length f) where
   wide : sweepOf sh d .majors ≡ sh .width
@@ -67,3 +70,8 @@ module _ (f : List ℕ) (sh : Shape) (d : Direction) (ok : Accepted sh d) (flat 
       ap₂ (λ (line : List ℕ) (j : ℕ). getD (opened line L) j 0)
       (ap (lineRead f sh d) (spot-line sh d ok p ∙ sym (number sh d y)) ∙ along-row sh d ok flat f fits y l)
       (spot-index sh d ok p (row-spans y l) ∙ here)
+
+pub numbered-along : (f : List ℕ) (sh : Shape) → Accepted sh along → needed sh ≤ length f → (L : ℕ) → 1 ≤ L → (x y : ℕ) → x < sh .width → y < sh .height
+    → inDirection f sh L x y 0 ≡ getD (opened (rowOf f sh y) L) x 0
+numbered-along f sh ok fits L some x y h l =
+    ap (λ (k : ℕ). openedPixel f sh along k x y) (pixels-along L some) ∙ along-opened f sh along ok refl fits L x y h l

@@ -4,7 +4,7 @@
 --   lent-open, lent-directions    the rules that all calls share, as those of each call
 --   open-ready, highest-ready, directions-ready
 --   open-figure            the figure that open_frame hands back is below 2^32
---   ready-numbered         the same for each numbered direction
+--   ready-numbered         the same for each numbered direction; pixels-ready, ready-pixels: with the pixels that the length stands for
 -- Assumes nothing.
 use mathlib.Core.Path.{_≡_, refl, sym, ap, _∙_}
 use mathlib.Core.Bool.{Bool, true, false, not, cond}
@@ -22,8 +22,10 @@ use Rattle.frame.specs.declared.direction.Direction.{Direction}
 use Rattle.frame.specs.declared.shape.Shape.{Shape}
 use Rattle.frame.specs.Direction.{isDirection, along, numberedOf}
 use Rattle.frame.specs.Shape.{isFrame, needed, scratchFor}
+use Rattle.frame.specs.Length.{pixelsFor, pixelsOrNone}
 use Rattle.frame.proofs.Shapes.{Framed, framed, needed-small}
 use Rattle.frame.proofs.Directions.{numbered-accepted}
+use Rattle.frame.proofs.Lengths.{pixels-some, pixels-most, pixels-known}
 use Rattle.opening.specs.Buffers.{bufferRules}
 use Rattle.opening.specs.Frames.{openFrameRules}
 use Rattle.opening.specs.Sixteen.{highestRules}
@@ -48,6 +50,7 @@ module _ (sh : Shape) (L size room spare : ℕ) where
         record {
           ok = record { frame = not-false (isFrame sh) (rules .0); direction = not-false (isDirection d) (rules .1 .0) };
           some = outside-not 1 longest L (rules .1 .1 .0) .0;
+          most = outside-not 1 longest L (rules .1 .1 .0) .1;
           source = ltb-false size (needed sh) (rules .1 .1 .1 .0);
           target = ltb-false room (needed sh) (rules .1 .1 .1 .1 .0);
           scratch = omega (arith, fits);
@@ -76,12 +79,29 @@ module _ (sh : Shape) (L size room spare : ℕ) where
       → Ready sh along L size room spare × (scratchFor sh + sh .width * sh .height ≤ spare)
   directions-ready says z = let ready = lent-ready along 1 (says ∙ sym lent-directions) z in (ready .0, omega (arith, ready .1))
 
+  pub pixels-ready : (d : Direction) {k : ℕ} → k ≡ pixelsOrNone d L → Ready sh d L size room spare → k ≡ pixelsFor d L
+  pixels-ready d count p = count ∙ pixels-known d L (p .ok .direction) (p .some) (omega (arith, p .most))
+
+  pub ready-pixels : (d : Direction) {k : ℕ} → k ≡ pixelsOrNone d L → Ready sh d L size room spare → Ready sh d k size room spare
+  ready-pixels d count p =
+      let is = pixels-ready d count p in
+      let most = pixels-most d L (p .some) in
+      record {
+        ok = p .ok;
+        some = omega (arith, pixels-some d L);
+        most = omega (arith, p .most);
+        source = p .source;
+        target = p .target;
+        scratch = p .scratch;
+      }
+
   pub ready-numbered : {d : Direction} {room′ spare′ : ℕ} (n : ℕ) → n < 16 → d ≡ numberedOf n → room′ ≡ room → spare′ ≡ spare
       → Ready sh along L size room spare → Ready sh d L size room′ spare′
   ready-numbered n h is e q p =
       record {
         ok = record { frame = p .ok .frame; direction = ap isDirection is ∙ numbered-accepted n h };
         some = p .some;
+        most = p .most;
         source = p .source;
         target = omega (arith, p .target);
         scratch = omega (arith, p .scratch);

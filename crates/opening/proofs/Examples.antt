@@ -12,6 +12,7 @@ use Rattle.line.specs.Windows as windows
 use Rattle.frame.specs.declared.shape.Shape.{Shape}
 use Rattle.frame.specs.Direction.{dir, along}
 use Rattle.frame.specs.Shape.{shape}
+use Rattle.frame.specs.Length as measures
 use Rattle.frame.specs.Lines as lines
 use Rattle.opening.specs.Pixels as pixels
 use Rattle.opening.specs.Pixels.{openedPixel, highestAt, directionAt}
@@ -44,12 +45,12 @@ unfolding tables.each extremes.least extremes.greatest windows.opened lines.r li
 diagonal-bright = refl
 
 pub highest-both : picture (highestAt strand small 3) ≡ 9 ∷ 1 ∷ 1 ∷ 1 ∷ 9 ∷ 1 ∷ 1 ∷ 1 ∷ 9 ∷ []
-unfolding tables.each extremes.least extremes.greatest windows.opened lines.r lines.indexIn pixels.openedPixel
+unfolding tables.each extremes.least extremes.greatest windows.opened measures.firstFrom lines.r lines.indexIn pixels.openedPixel
 highest-both = refl
 
 -- (4, 3), (1, 1) and (3, 4), numbers 3 to 5, all hold the diagonal here: the tie goes to 3; elsewhere along has it
 pub lowest-number : picture (directionAt strand small 3) ≡ 3 ∷ 0 ∷ 0 ∷ 0 ∷ 3 ∷ 0 ∷ 0 ∷ 0 ∷ 3 ∷ []
-unfolding tables.each extremes.least extremes.greatest windows.opened lines.r lines.indexIn pixels.openedPixel pixels.firstGreatest
+unfolding tables.each extremes.least extremes.greatest windows.opened measures.firstFrom lines.r lines.indexIn pixels.openedPixel pixels.firstGreatest
 lowest-number = refl
 
 -- 11 bytes of frame and 24 of scratch are enough; the direction frame needs 9 more

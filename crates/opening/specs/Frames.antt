@@ -10,6 +10,7 @@ use Rattle.frame.specs.declared.direction.Direction.{Direction}
 use Rattle.frame.specs.declared.shape.Shape.{Shape}
 use Rattle.frame.specs.Direction.{isDirection}
 use Rattle.frame.specs.Shape.{isFrame, scratchFor}
+use Rattle.frame.specs.Length.{pixelsFor}
 use Rattle.frame.specs.Painted.{Painted}
 use Rattle.opening.specs.Pixels.{openedPixel}
 use Rattle.opening.specs.Buffers.{bufferRules}
@@ -21,9 +22,10 @@ openFrameRules sh d L size room spare =
     ∷ rule (not (isDirection d)) 2 0
     ∷ bufferRules sh L size room spare (scratchFor sh)
 
+-- 'For a frame call, length L in direction (p, q) now means k pixels'
 -- f is the frame, g the destination and t the scratch. What scratch holds after a done call is left open, its length apart.
 pub record OpensFrame (f : List ℕ) (sh : Shape) (d : Direction) (L : ℕ) (g g′ t t′ : List ℕ) (a : Answer) : Type 0 where
   pub answers : a ≡ answer (openFrameRules sh d L (length f) (length g) (length t)) 0
-  pub done : a .number ≡ 0 → Painted sh (openedPixel f sh d L) g g′
+  pub done : a .number ≡ 0 → Painted sh (openedPixel f sh d (pixelsFor d L)) g g′
   pub refused : (a .number ≡ 0 → ⊥) → (g′ ≡ g) × (t′ ≡ t)
   pub scratch-length : length t′ ≡ length t

@@ -11,6 +11,7 @@ use mathlib.Core.List.{List, _∷_}
 use Prim.Native.Nat.{ℕ, _+_, _*_, _≤_, _<_, max}
 use lib.IntN.{ℤ}
 use lib.ListN.{length, getD}
+use Rattle.answer.specs.Limits.{longest}
 use Rattle.answer.specs.Rules.{Rule, rule}
 use Rattle.line.specs.Windows.{opened}
 use Rattle.frame.specs.declared.direction.Direction.{Direction}
@@ -32,6 +33,7 @@ lentRules sh d L size room spare frames =
 pub record Ready (sh : Shape) (d : Direction) (L size room spare : ℕ) : Type 0 where
   pub ok : Accepted sh d
   pub some : 1 ≤ L
+  pub most : L ≤ longest
   pub source : needed sh ≤ size
   pub target : needed sh ≤ room
   pub scratch : scratchFor sh ≤ spare

@@ -49,12 +49,13 @@ fn directions_into(
     open_rows(src, shape, length, width, &mut scratch[behind..]);
     let mut n = 1;
     while n < 16 {
+        let d = Direction::numbered(n);
         claim_by(
             src,
             n as u8,
             shape,
-            Direction::numbered(n),
-            length,
+            d,
+            d.pixels_for(length),
             behind,
             dst,
             scratch,

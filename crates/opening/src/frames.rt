@@ -15,7 +15,7 @@ ghost use Rattle.frame.specs.Painted.{Painted};
 ghost use Rattle.opening.specs.Pixels.{openedPixel};
 ghost use Rattle.opening.specs.Frames.{OpensFrame};
 
-// The frame src, opened in the direction d, into dst, a frame of the same width and height whose rows are `stride` apart. Along, each row is opened as it
+// The frame src, opened in the direction d with windows of `length` pixels, into dst, a frame of the same width and height whose rows are `stride` apart. Along, each row is opened as it
 // comes; else dst gets a copy, by windows of one pixel, and is opened where it stands.
 pub(crate) fn opened_into(
     src: &[Pixel],
@@ -46,7 +46,7 @@ pub(crate) fn opened_into(
     rows::open_shallow(dst, frame, d, length);
 }
 
-// Opens each line of the frame src in the direction d with windows of `length` pixels, into the frame dst. Hands back 0. Rules 1, 2, 3, 5, 6, 7.
+// Opens each line of the frame src in the direction d, into the frame dst, with windows as long as `length` pixels along a row. Hands back 0. Rules 1, 2, 3, 5, 6, 7.
 pub fn open_frame(
     src: &[Pixel],
     shape: Shape,
@@ -62,6 +62,6 @@ pub fn open_frame(
         return a;
     }
     let stride = shape.stride;
-    opened_into(src, shape, d, length, stride, dst);
+    opened_into(src, shape, d, d.pixels_for(length), stride, dst);
     a
 }

@@ -22,12 +22,13 @@ fn highest_into(src: &[Pixel], shape: Shape, length: usize, dst: &mut [Pixel], s
     open_rows(src, shape, length, stride, dst);
     let mut n = 1;
     while n < 16 {
-        raise_by(src, shape, Direction::numbered(n), length, dst, scratch);
+        let d = Direction::numbered(n);
+        raise_by(src, shape, d, d.pixels_for(length), dst, scratch);
         n += 1;
     }
 }
 
-// The greatest, at each pixel of the frame src, of its openings with windows of `length` pixels in the sixteen numbered directions, into the frame dst.
+// The greatest, at each pixel of the frame src, of its openings in the sixteen numbered directions, with windows as long as `length` pixels along a row, into the frame dst.
 // Hands back 0. Rules 1, 3, 5, 6, 7. Where scratch has width·height bytes, which rule 7 does not ask for, it is many times as fast.
 pub fn highest(
     src: &[Pixel],

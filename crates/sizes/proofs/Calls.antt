@@ -39,14 +39,14 @@ line-fits n entries spare e z =
     (omega arith, omega arith, omega arith)
 
 pub frame-fits : (sh : Shape) (d : Direction) (entries size spare : ℕ) {a : Answer} → a ≡ answer (frameRules sh d entries size spare) 0 → a .number ≡ 0
-    → Whole sh d size × (scratchFor sh ≤ spare) × (2 ≤ entries)
+    → Whole sh d size × (scratchFor sh ≤ spare) × (2 ≤ entries) × (entries ≤ longest + 1)
 frame-fits sh d entries size spare e z =
     let k = kept (frameRules sh d entries size spare) 0 refl (rw e at z) in
     let frame = not-false (isFrame sh) (k .0) in
     let direction = not-false (isDirection d) (k .1 .0) in
     let sums = outside-not 2 (longest + 1) entries (k .1 .1 .0) in
     let source = ltb-false size (needed sh) (k .1 .1 .1 .0) in
-    (record { ok = record { frame = frame; direction = direction }; source = source }, ltb-false spare (scratchFor sh) (k .1 .1 .1 .1 .0), sums .0)
+    (record { ok = record { frame = frame; direction = direction }; source = source }, ltb-false spare (scratchFor sh) (k .1 .1 .1 .1 .0), sums .0, sums .1)
 
 pub zeros-length : (n : ℕ) → length (zeros n) ≡ n
 zeros-length n = length-table (λ (_ : ℕ). 0) n

@@ -4,21 +4,24 @@
 --   line-short, line-dim                            a line is no longer than a side, and no brighter than the frame
 --   front-part, front-room                          a line at the front of an array, as a part of it
 --   Summing                                         where the adding of the lines stands; summing-start, -more, -modest, -end
+--   lit-some                                        of the entries for lengths to two longer sides there is one at least
+--   frame-cleared                                   those set, and the others cleared, are bins and rest: behind them there is no light
 --   frame-total                                     bins and rest of a frame together are the total of its pixels
 -- Assumes nothing.
-use mathlib.Core.Path.{_≡_, refl, sym, ap, _∙_}
-use mathlib.Core.Bool.{false}
-use mathlib.Core.List.{List, [], _∷_, map}
-use Prim.Native.Nat.{ℕ, zero, suc, _+_, _-_, _≤_, _<_, _^_, zero-le, max}
+use mathlib.Core.Path.{_≡_, refl, sym, ap, ap₂, _∙_}
+use mathlib.Core.Bool.{true, false}
+use mathlib.Core.List.{List, [], _∷_, _++_, map}
+use Prim.Native.Nat.{ℕ, zero, suc, _+_, _-_, _*_, _≤_, _<_, _^_, zero-le, min, max}
 use native.Mathlib.Omega.{arith}
 use lib.IntN.{ℤ, pos, _+ℤ_}
-use lib.ListN.{length, getD, take, drop, length-map, length-append}
-use lib.Seq.{ext-getD, take-at}
+use lib.ListN.{length, getD, take, drop, length-map, length-append, length-drop, take-append-drop}
+use lib.Seq.{ext-getD, take-at, length-take-le}
 use Rattle.lists.specs.Tables.{each, table}
 use Rattle.lists.specs.Extremes.{total}
 use Rattle.lists.specs.Stores.{front}
 use Rattle.lists.proofs.Tables.{table-same}
-use Rattle.lists.proofs.Extremes.{total-table}
+use Rattle.lists.proofs.Extremes.{total-table, total-zero}
+use Rattle.lists.proofs.Parts.{tail-lent, tail-front, tail-put}
 use Rattle.lists.proofs.Totals.{total-mono, table-most}
 use Rattle.answer.specs.declared.Answer.{Answer}
 use Rattle.answer.specs.Limits.{longest}
@@ -28,17 +31,21 @@ use Rattle.frame.specs.declared.direction.Direction.{Direction}
 use Rattle.frame.specs.declared.lines.Lines.{Lines}
 use Rattle.frame.specs.declared.shape.Shape.{Shape}
 use Rattle.frame.specs.Lines.{Pixel, pixels, noLine, place, firstLine, lineCount, linesOf, frameLight}
+use Rattle.frame.specs.Length.{pixelsFor}
+use Rattle.frame.specs.Shape.{isFrame}
 use Rattle.frame.specs.Sweep.{Accepted}
 use Rattle.frame.proofs.Shapes.{framed}
 use Rattle.frame.proofs.Firsts.{lines-accepted, count-most}
+use Rattle.frame.proofs.Lengths.{pixels-some, pixels-one, pixels-double, pixels-next}
 use Rattle.frame.proofs.Pixels.{pixels-most, among-line}
 use Rattle.frame.proofs.Light.{lines-light}
 use Rattle.gathering.specs.Gathering.{Gathers}
 use Rattle.gathering.proofs.Calls.{gather-done}
 use Rattle.bridge.specs.Sums.{sumFor}
-use Rattle.sizes.specs.Sums.{lineSums, lineAt, frameSum, frameSums}
+use Rattle.sizes.specs.Sums.{sumsOf, lineSums, lineAt, pixelSum, frameSum, frameSums}
 use Rattle.sizes.specs.Steps.{zeros, Modest, Adds, Whole}
-use Rattle.sizes.proofs.Bins.{sums-length, sums-total, sums-lines, sum-falls, sum-one}
+use Rattle.sizes.proofs.Bins.{sums-length, sums-behind, sums-total, sums-lines, sum-falls, sum-one, sum-short}
+use Rattle.sizes.proofs.Spreads.{counted-falls}
 use Rattle.sizes.proofs.Lights.{entry-most}
 use Rattle.sizes.proofs.Calls.{zeros-length, zero-entry}
 
@@ -126,17 +133,75 @@ module _ (f : List ℕ) (sh : Shape) (d : Direction) (n : ℕ) where
           table-most (entry j) u (2 ^ 20) (λ v l. entry-most (lineAt f sh d v) (n - 1) j (line-fits f sh d ok v) (line-dim f sh d dim v)),
         )
 
-  pub summing-end : (s : List ℕ) → 1 ≤ n → Summing f sh d n (lineCount sh d) s → s ≡ frameSums f sh d (n - 1)
+  pub summing-end : (s : List ℕ) → 1 ≤ n → Summing f sh d n (lineCount sh d) s → s ≡ sumsOf (pixelSum f sh d) (n - 1)
   summing-end s some g =
-      ext-getD 0 s (frameSums f sh d (n - 1)) (omega (arith, g .same, sums-length (frameSum f sh d) (n - 1)))
+      ext-getD 0 s (sumsOf (pixelSum f sh d) (n - 1)) (omega (arith, g .same, sums-length (pixelSum f sh d) (n - 1)))
       (λ j l. g .summed j
-      ∙ sym (sums-lines (λ (v L : ℕ). sumFor (lineAt f sh d v) L) (lineCount sh d) (λ v i. sum-falls (lineAt f sh d v) i) (n - 1) j (omega (arith, g .same))))
+      ∙ sym (sums-lines (λ (v k : ℕ). sumFor (lineAt f sh d v) k) (lineCount sh d) (λ v i. sum-falls (lineAt f sh d v) i) (n - 1) j (omega (arith, g .same))))
+
+-- ---- the entries that may have light
+
+abbrev side : Shape → ℕ
+side sh = max (sh .width) (sh .height)
+
+pub lit-some : (sh : Shape) → isFrame sh ≡ true → (entries n : ℕ) → 1 ≤ entries → n ≡ min entries (2 * side sh) → (1 ≤ n) × (n ≤ entries)
+lit-some sh frame entries n some e = (omega (arith, framed sh frame), omega arith)
+
+module _ (f : List ℕ) (sh : Shape) (d : Direction) (ok : Accepted sh d) where
+  frame-none : (L : ℕ) → 2 * side sh ≤ L → frameSum f sh d L ≡ 0
+  frame-none L h =
+      let long : side sh < pixelsFor d L = pixels-double d (ok .direction) (side sh) L (omega (arith, framed sh (ok .frame))) h in
+      ap total (table-same _ _ (lineCount sh d) (λ u _. sum-short (lineAt f sh d u) (pixelsFor d L) (omega (arith, line-short f sh d ok u, long))))
+      ∙ total-zero (lineCount sh d)
+
+  module _ (s : List ℕ) (n : ℕ) (some : 1 ≤ length s) (lit : n ≡ min (length s) (2 * side sh)) where
+    fits : (1 ≤ n) × (n ≤ length s)
+    fits = lit-some sh (ok .frame) (length s) n some lit
+
+    frame-behind : frameSums f sh d (n - 1) ++ zeros (length s - n) ≡ frameSums f sh d (length s - 1)
+    frame-behind =
+        let e : n - 1 + (length s - n) ≡ length s - 1 = omega (arith, fits) in
+        rw e at (sym (sums-behind (frameSum f sh d) (n - 1) (length s - n) (λ L lo hi. frame-none L (omega (arith, fits)))))
+
+    -- p was set at the front of s, and z cleared behind it
+    pub frame-cleared : (p z : List ℕ) → p ≡ frameSums f sh d (length (take n s) - 1)
+        → z ≡ zeros (length (take (length (p ++ drop n s) - n) (drop n (p ++ drop n s))))
+        → take n (p ++ drop n s) ++ (z ++ drop (length (p ++ drop n s) - n) (drop n (p ++ drop n s))) ≡ frameSums f sh d (length s - 1)
+    frame-cleared p z set cleared =
+        sym (take-append-drop n (take n q ++ (z ++ drop (length q - n) (drop n q))))
+        ∙ ap₂ _++_ (tail-front n q z room ∙ take-at p (drop n s) n filled ∙ set ∙ ap (λ (m : ℕ). frameSums f sh d (m - 1)) part)
+        (tail-put n q z room ∙ cleared ∙ ap zeros behind)
+        ∙ frame-behind
+      where
+        q : List ℕ
+        q = p ++ drop n s
+
+        part : length (take n s) ≡ n
+        part = length-take-le n s (fits .1)
+
+        filled : length p ≡ n
+        filled = rw set (omega (arith, sums-length (frameSum f sh d) (length (take n s) - 1), part, fits))
+
+        whole : length q ≡ length s
+        whole = omega (arith, length-append p (drop n s), length-drop n s, filled, fits)
+
+        room : n ≤ length q
+        room = omega (arith, whole, fits)
+
+        behind : length (take (length q - n) (drop n q)) ≡ length s - n
+        behind = ap length (tail-lent n q) ∙ omega (arith, length-drop n q, whole)
 
 -- ---- the light of a frame
 
-pub frame-total : (f : List ℕ) (sh : Shape) (d : Direction) (K : ℕ) → Accepted sh d → total (frameSums f sh d K) ≡ frameLight f sh
-frame-total f sh d K ok =
-    let sum : ℕ → ℕ → ℕ = λ L u. sumFor (lineAt f sh d u) L in
-    sums-total (frameSum f sh d) (λ i. total-mono (sum (suc i)) (sum (suc (suc i))) (lineCount sh d) (λ u l. sum-falls (lineAt f sh d u) i)) K
-    ∙ ap total (table-same _ _ (lineCount sh d) (λ u l. sum-one (lineAt f sh d u)))
-    ∙ lines-light f sh d ok
+module _ (f : List ℕ) (sh : Shape) (d : Direction) where
+  pixel-falls : (i : ℕ) → pixelSum f sh d (suc (suc i)) ≤ pixelSum f sh d (suc i)
+  pixel-falls i =
+      let sum : ℕ → ℕ → ℕ = λ k u. sumFor (lineAt f sh d u) k in
+      total-mono (sum (suc i)) (sum (suc (suc i))) (lineCount sh d) (λ u l. sum-falls (lineAt f sh d u) i)
+
+  pub frame-total : (K : ℕ) → Accepted sh d → total (frameSums f sh d K) ≡ frameLight f sh
+  frame-total K ok =
+      sums-total (frameSum f sh d) (λ i. counted-falls (pixelSum f sh d) (pixelsFor d) (pixels-some d) (pixels-next d) pixel-falls (suc i)) K
+      ∙ ap (pixelSum f sh d) (pixels-one d)
+      ∙ ap total (table-same _ _ (lineCount sh d) (λ u l. sum-one (lineAt f sh d u)))
+      ∙ lines-light f sh d ok

@@ -34,10 +34,12 @@ use Rattle.frame.specs.declared.direction.Direction.{Direction}
 use Rattle.frame.specs.declared.shape.Shape.{Shape}
 use Rattle.frame.specs.Direction.{numberedOf}
 use Rattle.frame.specs.Shape.{isFrame, needed}
-use Rattle.frame.specs.Lines.{Pixel, at, lineOf, pixels, place, gathered, lineRead, pixelsFor, indexIn}
+use Rattle.frame.specs.Length.{pixelsFor}
+use Rattle.frame.specs.Lines.{Pixel, at, lineOf, pixels, place, gathered, lineRead, indexIn}
 use Rattle.frame.specs.Painted.{Gap}
 use Rattle.frame.proofs.Shapes.{framed}
 use Rattle.frame.proofs.Partition.{flat}
+use Rattle.frame.proofs.Lengths.{pixels-some}
 use Rattle.frame.proofs.Pixels.{its-line}
 use Rattle.gathering.specs.Rows.{hasRow, LendsRow}
 use Rattle.gathering.proofs.LentRows.{row-from, row-length, row-pixel}
@@ -45,7 +47,7 @@ use Rattle.opening.specs.Pixels.{openedPixel, inDirection}
 use Rattle.opening.specs.Frames.{OpensFrame}
 use Rattle.opening.specs.Sixteen.{FindsHighest}
 use Rattle.opening.specs.Directions.{FindsDirections}
-use Rattle.opening.proofs.Calls.{open-ready, highest-ready}
+use Rattle.opening.proofs.Calls.{open-ready}
 use Rattle.theorems.specs.Equation.{Darkest, Dilates, Opens, OpenedOn, PartOf, Highest, Leads}
 use Rattle.theorems.proofs.Facts.{darkest-is, dilated-is, opened-is, opens-below, index-is, entry-in, entry-index, highest-of, leads-of}
 
@@ -103,9 +105,9 @@ module _ {src dst dst′ scratch scratch′ : List ℕ} {L : ℕ} {a : Answer} (
 -- ---- frames
 
 -- what `openedPixel` computes is what equation (3) says; so are the sixteen values of highest-is and direction-is
-pub opened-on : (f : List ℕ) (sh : Shape) (d : Direction) (L x y : ℕ) → 1 ≤ L → x < sh .width → y < sh .height → OpenedOn f sh d L x y (openedPixel f sh d L x y)
+pub opened-on : (f : List ℕ) (sh : Shape) (d : Direction) (k x y : ℕ) → 1 ≤ k → x < sh .width → y < sh .height → OpenedOn f sh d k x y (openedPixel f sh d k x y)
 unfolding openedPixel
-opened-on f sh d L x y some h l =
+opened-on f sh d k x y some h l =
     let j : ℕ = indexIn (at x y) (pixels sh d (lineOf d x y)) in
     let stands = index-is sh d x y h l in
     let n = length-map (pixels sh d (lineOf d x y)) (λ (c : Pixel). getD f (place sh c) 0) in
@@ -113,8 +115,8 @@ opened-on f sh d L x y some h l =
       j = j;
       stands = stands;
       opens =
-          subst (Opens (lineRead f sh d (lineOf d x y)) (pixelsFor d L) j) (sym (opened-at (lineRead f sh d (lineOf d x y)) (pixelsFor d L) j (omega (arith, n, stands .below))))
-          (opened-is (lineRead f sh d (lineOf d x y)) (pixelsFor d L) j some);
+          subst (Opens (lineRead f sh d (lineOf d x y)) k j) (sym (opened-at (lineRead f sh d (lineOf d x y)) k j (omega (arith, n, stands .below))))
+          (opened-is (lineRead f sh d (lineOf d x y)) k j some);
     }
 
 map-at : (h : Pixel → ℕ) (cs : List Pixel) (j : ℕ) → j < length cs → getD (map h cs) j 0 ≡ h (getD cs j (at 0 0))
@@ -122,23 +124,21 @@ map-at h [] j l = absurd (omega arith)
 map-at h (c ∷ cs) zero l = refl
 map-at h (c ∷ cs) (suc j) l = map-at h cs j (omega arith)
 
-on-below : (f : List ℕ) (sh : Shape) (d : Direction) (L x y v : ℕ) → OpenedOn f sh d L x y v → v ≤ getD f (place sh (at x y)) 0
-on-below f sh d L x y v o =
+on-below : (f : List ℕ) (sh : Shape) (d : Direction) (k x y v : ℕ) → OpenedOn f sh d k x y v → v ≤ getD f (place sh (at x y)) 0
+on-below f sh d k x y v o =
     let cs = pixels sh d (lineOf d x y) in
     let h : Pixel → ℕ = λ (c : Pixel). getD f (place sh c) 0 in
     let there : getD (lineRead f sh d (lineOf d x y)) (o .j) 0 ≡ h (at x y) = map-at h cs (o .j) (o .stands .below) ∙ ap h (o .stands .is) in
-    omega (arith, there, opens-below (lineRead f sh d (lineOf d x y)) (pixelsFor d L) (o .j) v (o .opens))
+    omega (arith, there, opens-below (lineRead f sh d (lineOf d x y)) k (o .j) v (o .opens))
 
 module _ {f : List ℕ} {sh : Shape} {d : Direction} {L : ℕ} {g g′ t t′ : List ℕ} {a : Answer} (p : OpensFrame f sh d L g g′ t t′ a) (z : a .number ≡ 0) where
-  -- 'at each pixel, over all windows of L neighbouring pixels that hold it and lie wholly on its line'
-  pub frame-is : (x y : ℕ) → x < sh .width → y < sh .height → OpenedOn f sh d L x y (getD g′ (place sh (at x y)) 0)
-  frame-is x y h l =
-      subst (OpenedOn f sh d L x y) (sym (p .done z .pixels x y h l))
-      (opened-on f sh d L x y (open-ready sh L (length f) (length g) (length t) d (p .answers) z .some) h l)
+  -- 'at each pixel, over all windows of L neighbouring pixels that hold it and lie wholly on its line'; 'Demand 2 reads k for L in frame calls'
+  pub frame-is : (x y : ℕ) → x < sh .width → y < sh .height → OpenedOn f sh d (pixelsFor d L) x y (getD g′ (place sh (at x y)) 0)
+  frame-is x y h l = subst (OpenedOn f sh d (pixelsFor d L) x y) (sym (p .done z .pixels x y h l)) (opened-on f sh d (pixelsFor d L) x y (pixels-some d L) h l)
 
   -- 'no pixel of the result is brighter than the pixel it came from'
   pub frame-no-brighter : (x y : ℕ) → x < sh .width → y < sh .height → getD g′ (place sh (at x y)) 0 ≤ getD f (place sh (at x y)) 0
-  frame-no-brighter x y h l = on-below f sh d L x y _ (frame-is x y h l)
+  frame-no-brighter x y h l = on-below f sh d (pixelsFor d L) x y _ (frame-is x y h l)
 
   -- 'Bytes between rows and after the last pixel of a destination never change.'
   pub frame-gaps : (i : ℕ) → Gap sh i → getD g′ i 0 ≡ getD g i 0
@@ -168,7 +168,7 @@ module _ {f : List ℕ} {sh : Shape} {d : Direction} {L : ℕ} {g g′ t t′ : 
 module _ {f : List ℕ} {sh : Shape} {L : ℕ} {g g′ t t′ : List ℕ} {a : Answer} where
   -- 'The highest opening takes, at each pixel, the greatest over the sixteen'
   pub highest-is : FindsHighest f sh L g g′ t t′ a → a .number ≡ 0 → (x y : ℕ) → x < sh .width → y < sh .height
-      → Highest (λ (n : ℕ). openedPixel f sh (numberedOf n) L x y) (getD g′ (place sh (at x y)) 0)
+      → Highest (λ (n : ℕ). openedPixel f sh (numberedOf n) (pixelsFor (numberedOf n) L) x y) (getD g′ (place sh (at x y)) 0)
   highest-is p z x y h l = subst (Highest (inDirection f sh L x y)) (sym (p .done z .pixels x y h l)) (highest-of (inDirection f sh L x y))
 
   pub highest-no-brighter : FindsHighest f sh L g g′ t t′ a → a .number ≡ 0 → (x y : ℕ) → x < sh .width → y < sh .height
@@ -176,15 +176,14 @@ module _ {f : List ℕ} {sh : Shape} {L : ℕ} {g g′ t t′ : List ℕ} {a : A
   highest-no-brighter p z x y h l =
       let top = highest-is p z x y h l .reached in
       let d = numberedOf (top .0) in
-      let some = highest-ready sh L (length f) (length g) (length t) (p .answers) z .some in
-      omega (arith, top .2, on-below f sh d L x y _ (opened-on f sh d L x y some h l))
+      omega (arith, top .2, on-below f sh d (pixelsFor d L) x y _ (opened-on f sh d (pixelsFor d L) x y (pixels-some d L) h l))
 
   pub highest-gaps : FindsHighest f sh L g g′ t t′ a → a .number ≡ 0 → (i : ℕ) → Gap sh i → getD g′ i 0 ≡ getD g i 0
   highest-gaps p z = p .done z .gaps
 
   -- 'the direction frame holds the lowest number that reaches it'
   pub direction-is : FindsDirections f sh L g g′ t t′ a → a .number ≡ 0 → (x y : ℕ) → x < sh .width → y < sh .height
-      → Leads (λ (n : ℕ). openedPixel f sh (numberedOf n) L x y) (getD g′ (place sh (at x y)) 0)
+      → Leads (λ (n : ℕ). openedPixel f sh (numberedOf n) (pixelsFor (numberedOf n) L) x y) (getD g′ (place sh (at x y)) 0)
   direction-is p z x y h l = subst (Leads (inDirection f sh L x y)) (sym (p .done z .pixels x y h l)) (leads-of (inDirection f sh L x y))
 
   pub direction-gaps : FindsDirections f sh L g g′ t t′ a → a .number ≡ 0 → (i : ℕ) → Gap sh i → getD g′ i 0 ≡ getD g i 0

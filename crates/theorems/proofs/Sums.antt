@@ -1,44 +1,52 @@
 -- Demand 2, size sums: what done calls put into the sums slice, from their contracts alone; and the rose and the summary.
 --   line-bin, line-rest, line-whole      each bin and the rest of a line; together they are the light in the line
 --   frame-bin, frame-rest, frame-whole   the same of a frame in a direction; frame-sum-opened: its sum for a length is the light of the opened frame
+--   frame-bin-shared                     the bin of a length that shares its count of pixels with the next is 0
+--   frame-bin-light, frame-rest-light    else it is the light of the stretches of just so many pixels, and the rest that of those with as many or more
 --   rose-row, rose-whole                 each row of a done rose; rose-unmarked: no entry of it is the mark of a refused rose
 --   summary-is                           mean and share of a done summary; summary-exact, summary-rounded: exact operands, rounded once
 --   summary-refused                      both floats of a refused one are +0.0
 -- Demand 3's last sentence, bins and rest from the list of stretches, is in Stretches.
 -- Assumes nothing.
 use mathlib.Core.Path.{_≡_, refl, sym, ap, _∙_}
-use mathlib.Core.Bool.{false}
+use mathlib.Core.Bool.{Bool, false}
 use mathlib.Core.List.{List, []}
 use Prim.Native.Nat.{ℕ, suc, _+_, _-_, _≤_, _<_, _^_}
 use native.Mathlib.Omega.{arith}
-use lib.Dec.{ltb}
+use lib.Dec.{eqb, ltb}
 use lib.Ieee.{fin, binary64, ofInt, round, toUnsigned}
 use lib.IntN.{pos, _+ℤ_}
 use lib.ListN.{length, getD}
 use borrow.Author.Tests.{ltb-false, eqb-false}
+use Rattle.lists.specs.Tables.{table}
 use Rattle.lists.specs.Extremes.{total}
 use Rattle.lists.proofs.Cases.{neither-left, neither-right}
 use Rattle.lists.proofs.Tables.{getD-table, table-same}
+use Rattle.lists.proofs.Totals.{total-less}
 use Rattle.answer.specs.declared.Answer.{Answer}
 use Rattle.answer.specs.Rules.{Kept, answer}
 use Rattle.answer.proofs.Rules.{done-kept, after-done}
 use Rattle.frame.specs.declared.direction.Direction.{Direction}
 use Rattle.frame.specs.declared.shape.Shape.{Shape}
 use Rattle.frame.specs.Direction.{numberedOf}
+use Rattle.frame.specs.Length.{pixelsFor}
 use Rattle.frame.specs.Lines.{frameLight, firstLine, lineCount}
 use Rattle.frame.specs.Sweep.{Accepted}
 use Rattle.frame.proofs.Directions.{numbered-accepted}
+use Rattle.frame.proofs.Lengths.{pixels-some}
 use Rattle.frame.proofs.Light.{lines-light}
 use Rattle.opening.specs.Frames.{OpensFrame}
 use Rattle.opening.proofs.Calls.{open-ready}
-use Rattle.bridge.specs.Sums.{sumFor, binFor, restFor}
-use Rattle.sizes.specs.Sums.{lineSums, frameSum, frameSums}
+use Rattle.bright.specs.Stretches.{stretches}
+use Rattle.bridge.specs.Sums.{sumFor, binFor, restFor, lightOf}
+use Rattle.bridge.proofs.Sizes.{bin-stretches, rest-stretches}
+use Rattle.sizes.specs.Sums.{lineSums, lineAt, pixelSum, frameSum, frameSums}
 use Rattle.sizes.specs.Line.{SumsLine}
 use Rattle.sizes.specs.Frame.{SumsFrame}
 use Rattle.sizes.specs.Rose.{roseRules, roseOf, refusedRose, Roses}
 use Rattle.sizes.specs.declared.summary.Summary.{Summary}
 use Rattle.sizes.specs.Summary.{binsOf, restOf, weighted, exactest, float, quotient, summaryRules, summaryOf}
-use Rattle.sizes.proofs.Bins.{sums-bin, sums-rest, line-total}
+use Rattle.sizes.proofs.Bins.{sums-bin, sums-rest, sum-falls, line-total}
 use Rattle.sizes.proofs.Calls.{frame-fits}
 use Rattle.sizes.proofs.Gathered.{frame-total}
 use Rattle.sizes.proofs.Rows.{rose-fits, sum-never-largest}
@@ -72,6 +80,30 @@ module _ {f : List ℕ} {sh : Shape} {d : Direction} {sums sums′ t t′ : List
 
   pub frame-rest : getD sums′ (length sums - 1) 0 ≡ frameSum f sh d (suc (length sums - 1))
   frame-rest = ap (λ (l : List ℕ). getD l (length sums - 1) 0) frame-filled ∙ sums-rest (frameSum f sh d) (length sums - 1)
+
+  -- 'a bin may now be 0 where two lengths share a k'
+  pub frame-bin-shared : (j : ℕ) → j < length sums - 1 → pixelsFor d (suc (suc j)) ≡ pixelsFor d (suc j) → getD sums′ j 0 ≡ 0
+  frame-bin-shared j h same = frame-bin j h ∙ ap (λ (k : ℕ). pixelSum f sh d (pixelsFor d (suc j)) - pixelSum f sh d k) same ∙ omega arith
+
+  -- the light of the stretches on the frame's lines whose pixels pass a test
+  abbrev lineLight : (ℕ → Bool) → ℕ
+  lineLight test = total (table (λ (u : ℕ). lightOf test (stretches (lineAt f sh d u))) (lineCount sh d))
+
+  pub frame-bin-light : (j : ℕ) → j < length sums - 1 → pixelsFor d (suc (suc j)) ≡ suc (pixelsFor d (suc j))
+      → getD sums′ j 0 ≡ lineLight (λ (n : ℕ). eqb n (pixelsFor d (suc j)))
+  frame-bin-light j h more =
+      let k : ℕ = pixelsFor d (suc j) in
+      let one : k ≡ suc (k - 1) = omega (arith, pixels-some d (suc j)) in
+      frame-bin j h
+      ∙ ap (λ (m : ℕ). pixelSum f sh d k - pixelSum f sh d m) more
+      ∙ total-less (λ (u : ℕ). sumFor (lineAt f sh d u) k) (λ (u : ℕ). sumFor (lineAt f sh d u) (suc k)) (lineCount sh d) (λ u _. rw one (sum-falls (lineAt f sh d u) (k - 1)))
+      ∙ ap total (table-same _ _ (lineCount sh d) (λ u _. bin-stretches (lineAt f sh d u) k (pixels-some d (suc j))))
+
+  pub frame-rest-light : getD sums′ (length sums - 1) 0 ≡ lineLight (λ (n : ℕ). ltb (pixelsFor d (suc (length sums - 1)) - 1) n)
+  frame-rest-light =
+      let k : ℕ = pixelsFor d (suc (length sums - 1)) in
+      let one : k ≡ suc (k - 1) = omega (arith, pixels-some d (suc (length sums - 1))) in
+      frame-rest ∙ ap (pixelSum f sh d) one ∙ ap total (table-same _ _ (lineCount sh d) (λ u _. rest-stretches (lineAt f sh d u) (k - 1)))
 
   pub frame-whole : total sums′ ≡ frameLight f sh
   frame-whole = ap total frame-filled ∙ frame-total f sh d (length sums - 1) (frame-fits sh d (length sums) (length f) (length t) (p .answers) z .0 .ok)

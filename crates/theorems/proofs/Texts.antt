@@ -28,6 +28,7 @@ use Rattle.answer.proofs.Rules.{after-done, outside-not, not-outside}
 use Rattle.line.specs.Windows as windows
 use Rattle.frame.specs.Direction.{numberedOf}
 use Rattle.frame.specs.Shape.{shape}
+use Rattle.frame.specs.Length as measures
 use Rattle.frame.specs.Lines as lines
 use Rattle.frame.specs.Lines.{lineRead, linesOf, pixels}
 use Rattle.gathering.specs.Gathering.{Gathers}
@@ -179,7 +180,7 @@ example-given =
     }
 
 example-bins : (rest : List ℕ) → frameSums (line ++ rest) (shape 5 1 5) (numberedOf 0) 3 ≡ 2 ∷ 4 ∷ 3 ∷ 10 ∷ []
-unfolding tables.each extremes.least extremes.greatest extremes.total windows.opened lines.r
+unfolding tables.each extremes.least extremes.greatest extremes.total windows.opened measures.firstFrom lines.r
 example-bins rest = refl
 
 -- with four entries for the sums: 'K fixed at 3'

@@ -12,6 +12,9 @@
 --   bookmark-invented                 a step of a reading that hands back another bookmark
 --   across-for-along, rows-exchanged, numbers-exchanged    results filed under the other's direction: of a frame opening, the rose and the direction frame
 --   tie-to-last                       a tie given to the last
+--   counted-as-pixels, rounded-down, by-the-lesser    a length that counts pixels in every direction, its count rounded down, or measured by the lesser number of the pair
+--   frame-by-pixels, line-by-length   a slanted frame opened with as many pixels as the length says; a line opened with fewer
+--   rest-by-pixels, shared-twice      a frame's rest from K+1 pixels; two lengths that share a count both getting the light
 --   leading-zero                      a reading that takes a number with a leading zero
 -- Assumes nothing.
 use mathlib.Core.Path.{_≡_, refl, sym, ap, _∙_}
@@ -35,6 +38,8 @@ use Rattle.frame.specs.declared.direction.Direction.{Direction}
 use Rattle.frame.specs.declared.shape.Shape.{Shape}
 use Rattle.frame.specs.Direction.{dir, along, isDirection, numberedOf}
 use Rattle.frame.specs.Shape.{shape}
+use Rattle.frame.specs.Length as measures
+use Rattle.frame.specs.Length.{pixelsFor, pixelsOrNone}
 use Rattle.frame.specs.Lines as lines
 use Rattle.gathering.specs.Gathering.{Gathers}
 use Rattle.gathering.specs.Scattering.{Scatters, Raises}
@@ -152,7 +157,7 @@ refusing-host p refused =
 
 -- a refused rose has the largest number in every entry
 pub refusing-rose : {t′ : List ℕ} → Roses strand small spare t′ refusedRose → ⊥
-unfolding tables.each extremes.least extremes.greatest extremes.total windows.opened lines.r
+unfolding tables.each extremes.least extremes.greatest extremes.total windows.opened measures.firstFrom lines.r
 refusing-rose p =
     let first : _≡_ {A = ℕ} (2 ^ 64 - 1) 24 = ap (λ (r : List (List ℕ)). getD (getD r 0 []) 0 0) (p .rows) in
     omega (arith, first)
@@ -205,50 +210,50 @@ module _ {t′ : List ℕ} {a : Answer} where
 -- ---- the same of a frame, and 'a frame opening that treats its first line and copies the rest (demand 2, each pixel on its line)'
 
 painted : {d : Direction} {g′ t′ : List ℕ} {a : Answer} → isDirection d ≡ true → OpensFrame strand small d 3 sixes g′ spare t′ a
-    → Painted small (openedPixel strand small d 3) sixes g′
+    → Painted small (openedPixel strand small d (pixelsFor d 3)) sixes g′
 painted ok p = p .done (ap (λ (a : Answer). a .number) (p .answers) ∙ rw ok)
 
 module _ {t′ : List ℕ} {a : Answer} where
   pub frame-dark : OpensFrame strand small diagonal 3 sixes (0 ∷ 0 ∷ 0 ∷ 8 ∷ 0 ∷ 0 ∷ 0 ∷ 8 ∷ 0 ∷ 0 ∷ 0 ∷ []) spare t′ a → ⊥
-  unfolding tables.each extremes.least extremes.greatest windows.opened lines.r lines.indexIn leading.openedPixel
+  unfolding tables.each extremes.least extremes.greatest windows.opened measures.firstFrom lines.r lines.indexIn leading.openedPixel
   frame-dark p = let corner : _≡_ {A = ℕ} 0 9 = painted refl p .pixels 0 0 (omega arith) (omega arith) in omega (arith, corner)
 
   pub frame-copied : OpensFrame strand small diagonal 3 sixes (9 ∷ 1 ∷ 1 ∷ 8 ∷ 1 ∷ 9 ∷ 1 ∷ 8 ∷ 1 ∷ 1 ∷ 9 ∷ []) spare t′ a → ⊥
-  unfolding tables.each extremes.least extremes.greatest windows.opened lines.r lines.indexIn leading.openedPixel
+  unfolding tables.each extremes.least extremes.greatest windows.opened measures.firstFrom lines.r lines.indexIn leading.openedPixel
   frame-copied p = let beside : _≡_ {A = ℕ} 1 0 = painted refl p .pixels 1 0 (omega arith) (omega arith) in omega (arith, beside)
 
   pub frame-unwritten : OpensFrame strand small diagonal 3 sixes sixes spare t′ a → ⊥
-  unfolding tables.each extremes.least extremes.greatest windows.opened lines.r lines.indexIn leading.openedPixel
+  unfolding tables.each extremes.least extremes.greatest windows.opened measures.firstFrom lines.r lines.indexIn leading.openedPixel
   frame-unwritten p = let corner : _≡_ {A = ℕ} 6 9 = painted refl p .pixels 0 0 (omega arith) (omega arith) in omega (arith, corner)
 
   -- the first line is row 0
   pub first-row-only : OpensFrame strand small along 3 sixes (1 ∷ 1 ∷ 1 ∷ 8 ∷ 1 ∷ 9 ∷ 1 ∷ 8 ∷ 1 ∷ 1 ∷ 9 ∷ []) spare t′ a → ⊥
-  unfolding tables.each extremes.least extremes.greatest windows.opened lines.r lines.indexIn leading.openedPixel
+  unfolding tables.each extremes.least extremes.greatest windows.opened measures.firstFrom lines.r lines.indexIn leading.openedPixel
   first-row-only p = let middle : _≡_ {A = ℕ} 9 1 = painted refl p .pixels 1 1 (omega arith) (omega arith) in omega (arith, middle)
 
   -- the first line is number −2, the pixel (2, 0)
   pub first-line-only : OpensFrame strand small diagonal 3 sixes (9 ∷ 1 ∷ 0 ∷ 8 ∷ 1 ∷ 9 ∷ 1 ∷ 8 ∷ 1 ∷ 1 ∷ 9 ∷ []) spare t′ a → ⊥
-  unfolding tables.each extremes.least extremes.greatest windows.opened lines.r lines.indexIn leading.openedPixel
+  unfolding tables.each extremes.least extremes.greatest windows.opened measures.firstFrom lines.r lines.indexIn leading.openedPixel
   first-line-only p = let beside : _≡_ {A = ℕ} 1 0 = painted refl p .pixels 1 0 (omega arith) (omega arith) in omega (arith, beside)
 
 -- ---- the highest opening and its direction, dark or not written
 
 module _ {t′ : List ℕ} {a : Answer} where
   pub highest-dark : FindsHighest strand small 3 sixes (0 ∷ 0 ∷ 0 ∷ 8 ∷ 0 ∷ 0 ∷ 0 ∷ 8 ∷ 0 ∷ 0 ∷ 0 ∷ []) spare t′ a → ⊥
-  unfolding tables.each extremes.least extremes.greatest windows.opened lines.r lines.indexIn leading.openedPixel
+  unfolding tables.each extremes.least extremes.greatest windows.opened measures.firstFrom lines.r lines.indexIn leading.openedPixel
   highest-dark p = let corner : _≡_ {A = ℕ} 0 9 = p .done (done-number (p .answers)) .pixels 0 0 (omega arith) (omega arith) in omega (arith, corner)
 
   pub highest-unwritten : FindsHighest strand small 3 sixes sixes spare t′ a → ⊥
-  unfolding tables.each extremes.least extremes.greatest windows.opened lines.r lines.indexIn leading.openedPixel
+  unfolding tables.each extremes.least extremes.greatest windows.opened measures.firstFrom lines.r lines.indexIn leading.openedPixel
   highest-unwritten p = let corner : _≡_ {A = ℕ} 6 9 = p .done (done-number (p .answers)) .pixels 0 0 (omega arith) (omega arith) in omega (arith, corner)
 
   -- the diagonal is first held by direction 3
   pub directions-dark : FindsDirections strand small 3 sixes (0 ∷ 0 ∷ 0 ∷ 8 ∷ 0 ∷ 0 ∷ 0 ∷ 8 ∷ 0 ∷ 0 ∷ 0 ∷ []) spare t′ a → ⊥
-  unfolding tables.each extremes.least extremes.greatest windows.opened lines.r lines.indexIn leading.openedPixel leading.firstGreatest
+  unfolding tables.each extremes.least extremes.greatest windows.opened measures.firstFrom lines.r lines.indexIn leading.openedPixel leading.firstGreatest
   directions-dark p = let corner : _≡_ {A = ℕ} 0 3 = p .done (done-number (p .answers)) .pixels 0 0 (omega arith) (omega arith) in omega (arith, corner)
 
   pub directions-unwritten : FindsDirections strand small 3 sixes sixes spare t′ a → ⊥
-  unfolding tables.each extremes.least extremes.greatest windows.opened lines.r lines.indexIn leading.openedPixel leading.firstGreatest
+  unfolding tables.each extremes.least extremes.greatest windows.opened measures.firstFrom lines.r lines.indexIn leading.openedPixel leading.firstGreatest
   directions-unwritten p = let corner : _≡_ {A = ℕ} 6 3 = p .done (done-number (p .answers)) .pixels 0 0 (omega arith) (omega arith) in omega (arith, corner)
 
 -- ---- 'a listing with an invented count or only the whole line (demand 3)'
@@ -320,26 +325,82 @@ bar =
 module _ {rest t′ : List ℕ} {a : Answer} where
   -- what is opened across, under the name of along: pixel (0, 0) may be 1, (0, 1) may not
   pub across-for-along : OpensFrame bar small along 3 sixes (1 ∷ 1 ∷ 1 ∷ 8 ∷ 1 ∷ rest) spare t′ a → ⊥
-  unfolding tables.each extremes.least extremes.greatest windows.opened lines.r lines.indexIn leading.openedPixel
+  unfolding tables.each extremes.least extremes.greatest windows.opened measures.firstFrom lines.r lines.indexIn leading.openedPixel
   across-for-along p = let below : _≡_ {A = ℕ} 1 9 = p .done (done-number (p .answers)) .pixels 0 1 (omega arith) (omega arith) in omega (arith, below)
 
   -- along, number 0, holds every pixel of a bright row; 8, across, stands in its place
   pub numbers-exchanged : FindsDirections bar small 3 sixes (8 ∷ rest) spare t′ a → ⊥
-  unfolding tables.each extremes.least extremes.greatest windows.opened lines.r lines.indexIn leading.openedPixel leading.firstGreatest
+  unfolding tables.each extremes.least extremes.greatest windows.opened measures.firstFrom lines.r lines.indexIn leading.openedPixel leading.firstGreatest
   numbers-exchanged p = let corner : _≡_ {A = ℕ} 8 0 = p .done (done-number (p .answers)) .pixels 0 0 (omega arith) (omega arith) in omega (arith, corner)
 
   -- 3, 4 and 5 all hold the diagonal of a frame of 3 by 3 pixels; the lowest number has it
   pub tie-to-last : FindsDirections strand small 3 sixes (5 ∷ rest) spare t′ a → ⊥
-  unfolding tables.each extremes.least extremes.greatest windows.opened lines.r lines.indexIn leading.openedPixel leading.firstGreatest
+  unfolding tables.each extremes.least extremes.greatest windows.opened measures.firstFrom lines.r lines.indexIn leading.openedPixel leading.firstGreatest
   tie-to-last p = let corner : _≡_ {A = ℕ} 5 3 = p .done (done-number (p .answers)) .pixels 0 0 (omega arith) (omega arith) in omega (arith, corner)
 
 -- the row of across under the number of along: the first bin of a bright row is 0 along, and 24 across
 pub rows-exchanged : {t′ : List ℕ} {r : List (List ℕ)} → Roses bar small spare t′ r → getD r 0 [] ≡ frameSums bar small (numberedOf 8) 32 → ⊥
-unfolding tables.each extremes.least extremes.greatest extremes.total windows.opened lines.r
+unfolding tables.each extremes.least extremes.greatest extremes.total windows.opened measures.firstFrom lines.r
 rows-exchanged p across =
     let along-row = ap (λ (r : List (List ℕ)). getD r 0 []) (p .rows) in
     let first : _≡_ {A = ℕ} 0 24 = ap (λ (l : List ℕ). getD l 0 0) (sym along-row ∙ across) in
     omega (arith, first)
+
+-- ---- 'length L in direction (p, q) now means k pixels'; 'Line calls still count pixels'
+
+-- 21 at (1,1) is 16, and at (4,3) 17
+module _ {k : ℕ} where
+  pub counted-as-pixels : k ≡ pixelsOrNone diagonal 21 → k ≡ 21 → ⊥
+  unfolding measures.firstFrom
+  counted-as-pixels e version = omega (arith, e, version)
+
+  pub rounded-down : k ≡ pixelsOrNone diagonal 21 → k ≡ 15 → ⊥
+  unfolding measures.firstFrom
+  rounded-down e version = omega (arith, e, version)
+
+  pub by-the-lesser : k ≡ pixelsOrNone (dir (pos 4) (pos 3)) 21 → k ≡ 13 → ⊥
+  unfolding measures.firstFrom
+  by-the-lesser e version = omega (arith, e, version)
+
+-- a frame of 4 by 4 pixels that is bright on its diagonal alone: on (1,1) the lengths 4 and 5 both stand for 4 pixels
+abbrev larger : Shape
+larger = shape 4 4 4
+
+abbrev thread : List ℕ
+thread =
+    9 ∷ 0 ∷ 0 ∷ 0
+    ∷ 0 ∷ 9 ∷ 0 ∷ 0
+    ∷ 0 ∷ 0 ∷ 9 ∷ 0
+    ∷ 0 ∷ 0 ∷ 0 ∷ 9 ∷ []
+
+module _ {rest t′ : List ℕ} {a : Answer} where
+  -- no line has five pixels
+  pub frame-by-pixels : OpensFrame thread larger diagonal 5 thread (0 ∷ rest) spare t′ a → ⊥
+  unfolding tables.each extremes.least extremes.greatest windows.opened measures.firstFrom lines.r lines.indexIn leading.openedPixel
+  frame-by-pixels p = let corner : _≡_ {A = ℕ} 0 9 = p .done (done-number (p .answers)) .pixels 0 0 (omega arith) (omega arith) in omega (arith, corner)
+
+  -- P5, opened with the 5 pixels that 6 stands for on a diagonal
+  pub line-by-length : OpensLine line 6 nines (2 ∷ rest) spare t′ a → ⊥
+  unfolding tables.each extremes.least extremes.greatest windows.opened
+  line-by-length p =
+      let first : _≡_ {A = ℕ} 2 0 = ap (λ (l : List ℕ). getD l 0 0) (p .written ∙ ap (λ (a : Answer). after a (front (opened line 6) nines) nines) (p .answers)) in
+      omega (arith, first)
+
+-- the light of the diagonal is 4 · 9
+module _ {t′ : List ℕ} {a : Answer} where
+  -- with 4 bins the rest has it: 5 stands for 4 pixels
+  pub rest-by-pixels : SumsFrame thread larger diagonal nines (0 ∷ 0 ∷ 0 ∷ 36 ∷ 0 ∷ []) spare t′ a → ⊥
+  unfolding tables.each extremes.least extremes.greatest extremes.total windows.opened measures.firstFrom lines.r
+  rest-by-pixels p =
+      let last : _≡_ {A = ℕ} 0 36 = ap (λ (l : List ℕ). getD l 4 0) (p .written ∙ ap (λ (a : Answer). after a (frameSums thread larger diagonal 4) nines) (p .answers)) in
+      omega (arith, last)
+
+  -- with 5 bins the last of them
+  pub shared-twice : SumsFrame thread larger diagonal (9 ∷ nines) (0 ∷ 0 ∷ 0 ∷ 36 ∷ 36 ∷ 0 ∷ []) spare t′ a → ⊥
+  unfolding tables.each extremes.least extremes.greatest extremes.total windows.opened measures.firstFrom lines.r
+  shared-twice p =
+      let fourth : _≡_ {A = ℕ} 36 0 = ap (λ (l : List ℕ). getD l 3 0) (p .written ∙ ap (λ (a : Answer). after a (frameSums thread larger diagonal 5) (9 ∷ nines)) (p .answers)) in
+      omega (arith, fourth)
 
 -- ---- 'Numbers are decimal without leading zero'
 

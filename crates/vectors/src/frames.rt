@@ -1,5 +1,6 @@
 // The calls on a frame, on its shape and on a direction.
 use crate::draw::check_bytes;
+use crate::draw::mixed;
 use crate::got::Got;
 use crate::got::answered;
 use crate::got::bits;
@@ -72,6 +73,30 @@ fn measures(shape: Shape) -> Got {
     }
 }
 
+// The checksum of what every length from 0 to the last stands for; none past 4,098 is asked, which already stands for nothing.
+fn check_lengths(d: Direction, last: usize) -> u64 {
+    let mut check = 1;
+    let mut length: usize = 0;
+    while length <= 4098 {
+        if last < length {
+            break;
+        }
+        check = mixed(check, d.pixels_for(length) as u64);
+        length += 1;
+    }
+    check
+}
+
+// What a length stands for, and the checksum of what those up to it do.
+fn pixels(d: Direction, length: usize) -> Got {
+    Got {
+        number: 0,
+        figure: d.pixels_for(length) as u64,
+        first: check_lengths(d, length),
+        second: 0,
+    }
+}
+
 // What needs no buffer, or only the source.
 fn lookup(c: Case, src: &[u8]) -> Got {
     let which = c.call;
@@ -83,6 +108,7 @@ fn lookup(c: Case, src: &[u8]) -> Got {
         12 => direction(d),
         13 => numbered(c.length),
         14 => measures(shape),
+        15 => pixels(d, c.length),
         _ => nothing(),
     }
 }

@@ -7,14 +7,16 @@ use Rattle.lists.specs.Tables.{table}
 use Rattle.lists.specs.Extremes.{greatest}
 use Rattle.frame.specs.declared.direction.Direction.{Direction}
 use Rattle.frame.specs.Shape.{needed, gapless}
+use Rattle.frame.specs.Length.{pixelsFor}
 use Rattle.frame.proofs.Shapes.{framed, gapless-needed}
 use Rattle.frame.specs.Painted.{Painted}
 use Rattle.frame.proofs.Paintings.{painted-as, painted-again, painted-stays}
 use Rattle.gathering.specs.Claiming.{claims}
 use Rattle.opening.specs.Pixels.{openedPixel, inDirection, firstGreatest}
+use Rattle.opening.specs.Steps.{Ready}
 use Rattle.opening.proofs.Claimings.{tail-size, tail-same, best-begins}
-use Rattle.opening.proofs.Along.{along-opened}
-use Rattle.opening.proofs.Calls.{ready-numbered}
+use Rattle.opening.proofs.Along.{numbered-along}
+use Rattle.opening.proofs.Calls.{ready-numbered, pixels-ready, ready-pixels}
 use Rattle.opening.proofs.Leaders.{greatest-one, greatest-more, first-one, first-more}
 use borrow.Author.Needs.{needs}
 use Rattle.opening.proofs.directions.directions_into.Statement.{statement}
@@ -65,56 +67,77 @@ loop-holds c =
       refl,
       painted-as _ (painted-stays (c .before .before .before .before .before .before .blacken .ensures)) (λ x y h l. sym (first-one (v x y))),
       painted-as _ best
-          (λ x y h l. sym (greatest-one (v x y) ∙ along-opened (a .src .now) (a .shape) _ (pre .0 .ok) refl (pre .0 .source) (a .length) x y h l)),
+          (λ x y h l. sym (greatest-one (v x y) ∙ numbered-along (a .src .now) (a .shape) (pre .0 .ok) (pre .0 .source) (a .length) (pre .0 .some) x y h l)),
     )
-
-cast-claim-by : tie.Need-cast-claim-by Inv-loop μ-loop
-cast-claim-by c = omega (arith, c .loop-test .taken)
 
 numbered-requires : tie.Need-numbered-requires Inv-loop μ-loop
 numbered-requires c κs = search needs
 
+cast-claim-by : tie.Need-cast-claim-by Inv-loop μ-loop
+cast-claim-by c = omega (arith, c .before .loop-test .taken)
+
+pixels-for-requires : tie.Need-pixels-for-requires Inv-loop μ-loop
+pixels-for-requires c κs = search needs
+
+-- scratch is as long as at first
+long : (c : tie.After-pixels-for Inv-loop μ-loop) → size (c .before .before .before .loop .scratch) ≡ size (c .before .before .before .before .before .before .before .before .before .before .before .before .before .before .before .args .scratch .now)
+long c =
+    let a = c .before .before .before .before .before .before .before .before .before .before .before .before .before .before .before .args in
+    let pre = c .before .before .before .before .before .before .before .before .before .before .before .before .before .before .before .pre in
+    let loop = c .before .before .before .loop in
+    let rows = c .before .before .before .before .before .before .open-rows in
+    loop .inv .2 ∙ tail-same (a .behind) (a .scratch .now) (rows .last .1 .1 .1 .1 .0) (rows .kept .1 .1 .1 .1 .0) (omega (arith, pre .1))
+
+-- the direction that is next, ready for the length
+ready : (c : tie.After-pixels-for Inv-loop μ-loop)
+    → (let a = c .before .before .before .before .before .before .before .before .before .before .before .before .before .before .before .args in
+    let loop = c .before .before .before .loop in
+    Ready (a .shape) (c .before .numbered .result) (a .length) (size (a .src .now)) (size (loop .dst)) (size (loop .scratch)))
+ready c =
+    let a = c .before .before .before .before .before .before .before .before .before .before .before .before .before .before .before .args in
+    let pre = c .before .before .before .before .before .before .before .before .before .before .before .before .before .before .before .pre in
+    let loop = c .before .before .before .loop in
+    let dark = c .before .before .before .before .before .before .before .before .before .before .blacken in
+    ready-numbered (a .shape) (a .length) _ _ _ (loop .n) (omega (arith, c .before .before .loop-test .taken)) (c .before .numbered .ensures)
+    (loop .inv .3 .same ∙ dark .kept .1 .0) (long c) (pre .0)
+
 claim-by-requires : tie.Need-claim-by-requires Inv-loop μ-loop
 claim-by-requires c κs =
-    let a = c .before .before .before .before .before .before .before .before .before .before .before .before .before .before .before .before .args in
-    let pre = c .before .before .before .before .before .before .before .before .before .before .before .before .before .before .before .before .pre in
-    let loop = c .before .before .before .before .loop in
-    let rows = c .before .before .before .before .before .before .before .open-rows in
-    let dark = c .before .before .before .before .before .before .before .before .before .before .before .blacken in
-    let fits = tail-same (a .behind) (a .scratch .now) (rows .last .1 .1 .1 .1 .0) (rows .kept .1 .1 .1 .1 .0) (omega (arith, pre .1)) in
-    let ready =
-    ready-numbered (a .shape) (a .length) _ _ _ (loop .n) (omega (arith, c .before .before .before .loop-test .taken)) (c .before .before .numbered .ensures)
-    (loop .inv .3 .same ∙ dark .kept .1 .0) (loop .inv .2 ∙ fits) (pre .0) in
-    (ready, omega (arith, pre .1, loop .inv .2, fits))
+    let at = c .before .before in
+    (ready-pixels _ _ _ _ _ _ (at .pixels-for .ensures) (ready at), omega (arith, at .before .before .before .before .before .before .before .before .before .before .before .before .before .before .before .pre .1, long at))
 
 add-n : tie.Need-add-n Inv-loop μ-loop
-add-n c = omega (arith, c .before .before .before .before .before .before .before .before .loop-test .taken)
+add-n c = omega (arith, c .before .before .before .before .before .before .before .before .before .loop-test .taken)
 
 loop-less : tie.Need-loop-less Inv-loop μ-loop
-loop-less c = omega (arith, c .before .before .before .before .before .before .before .before .loop-test .taken)
+loop-less c = omega (arith, c .before .before .before .before .before .before .before .before .before .loop-test .taken)
 
 loop-again : tie.Need-loop-again Inv-loop μ-loop
 loop-again c =
-    let a = c .before .before .before .before .before .before .before .before .before .before .before .before .before .before .before .before .before .before .before .before .before .args in
-    let loop = c .before .before .before .before .before .before .before .before .before .loop in
+    let a = c .before .before .before .before .before .before .before .before .before .before .before .before .before .before .before .before .before .before .before .before .before .before .args in
+    let loop = c .before .before .before .before .before .before .before .before .before .before .loop in
     let n = loop .n in
-    let d = c .before .before .before .before .before .before .before .numbered .result in
+    let at = c .before .before .before .before .before .before .before in
+    let d = at .before .numbered .result in
     let claim = c .before .before .before .before .claim-by .ensures in
-    let is = c .before .before .before .before .before .before .before .numbered .ensures in
+    let is = at .before .numbered .ensures in
+    let count = pixels-ready _ _ _ _ _ _ (at .pixels-for .ensures) (ready at) in
     let v : ℕ → ℕ → ℕ → ℕ = inDirection (a .src .now) (a .shape) (a .length) in
-    let new : Direction → ℕ → ℕ → ℕ = λ d x y. openedPixel (a .src .now) (a .shape) d (a .length) x y in (
+    let new : Direction → ℕ → ℕ → ℕ → ℕ = λ d k x y. openedPixel (a .src .now) (a .shape) d k x y in (
       omega arith,
-      omega (arith, c .before .before .before .before .before .before .before .before .loop-test .taken),
+      omega (arith, c .before .before .before .before .before .before .before .before .before .loop-test .taken),
       c .before .before .before .before .claim-by .kept .1 .1 .1 .1 .1 .1 .1 .0 ∙ loop .inv .2,
       painted-as _ (painted-again (loop .inv .3) (claim .holders))
           (λ x y h l.
-          ap₂ (λ (m k : ℕ). claims m n (new d x y) k) (loop .inv .4 .pixels x y h l) (loop .inv .3 .pixels x y h l)
-          ∙ ap (λ (e : Direction). claims (greatest (table (v x y) n)) n (new e x y) (firstGreatest (v x y) n)) is
+          ap₂ (λ (m k : ℕ). claims m n (new d (at .pixels-for .result) x y) k) (loop .inv .4 .pixels x y h l) (loop .inv .3 .pixels x y h l)
+          ∙ ap (λ (k : ℕ). claims (greatest (table (v x y) n)) n (new d k x y) (firstGreatest (v x y) n)) count
+          ∙ ap (λ (e : Direction). claims (greatest (table (v x y) n)) n (new e (pixelsFor e (a .length)) x y) (firstGreatest (v x y) n)) is
           ∙ sym (first-more (v x y) n (loop .inv .0))),
       painted-as _ (painted-again (loop .inv .4) (claim .raised))
           (λ x y h l.
-          ap (λ (m : ℕ). max m (new d x y)) (loop .inv .4 .pixels x y h l)
-          ∙ ap (λ (e : Direction). max (greatest (table (v x y) n)) (new e x y)) is
+          ap (λ (m : ℕ). max m (new d (at .pixels-for .result) x y)) (loop .inv .4 .pixels x y h l)
+          ∙ ap (λ (k : ℕ). max (greatest (table (v x y) n)) (new d k x y)) count
+          ∙ ap (λ (e : Direction). max (greatest (table (v x y) n)) (new e (pixelsFor e (a .length)) x y)) is
           ∙ sym (greatest-more (v x y) n)),
     )
 
@@ -148,8 +171,9 @@ directions-into-spec =
     part-open-rows-end
     open-rows-requires
     loop-holds
-    cast-claim-by
     numbered-requires
+    cast-claim-by
+    pixels-for-requires
     claim-by-requires
     add-n
     loop-less

@@ -6,12 +6,14 @@ use lib.ListN.{length as size}
 use Rattle.lists.specs.Tables.{table}
 use Rattle.lists.specs.Extremes.{greatest}
 use Rattle.frame.specs.declared.direction.Direction.{Direction}
+use Rattle.frame.specs.Length.{pixelsFor}
 use Rattle.frame.proofs.Shapes.{framed}
 use Rattle.frame.specs.Painted.{Painted}
 use Rattle.frame.proofs.Paintings.{painted-as, painted-again, painted-stays}
 use Rattle.opening.specs.Pixels.{openedPixel, inDirection}
-use Rattle.opening.proofs.Along.{along-opened}
-use Rattle.opening.proofs.Calls.{ready-numbered}
+use Rattle.opening.specs.Steps.{Ready}
+use Rattle.opening.proofs.Along.{numbered-along}
+use Rattle.opening.proofs.Calls.{ready-numbered, pixels-ready, ready-pixels}
 use Rattle.opening.proofs.Leaders.{greatest-one, greatest-more}
 use borrow.Author.Needs.{needs}
 use Rattle.opening.proofs.sixteen.highest_into.Statement.{statement}
@@ -42,43 +44,58 @@ loop-holds c =
       refl,
       painted-as _ along
           (λ x y h l.
-          sym (greatest-one (inDirection (a .src .now) (a .shape) (a .length) x y) ∙ along-opened (a .src .now) (a .shape) _ (pre .ok) refl
-          (pre .source) (a .length) x y h l)),
+          sym (greatest-one (inDirection (a .src .now) (a .shape) (a .length) x y)
+          ∙ numbered-along (a .src .now) (a .shape) (pre .ok) (pre .source) (a .length) (pre .some) x y h l)),
     )
 
 numbered-requires : tie.Need-numbered-requires Inv-loop μ-loop
 numbered-requires c κs = search needs
 
+pixels-for-requires : tie.Need-pixels-for-requires Inv-loop μ-loop
+pixels-for-requires c κs = search needs
+
+-- the direction that is next, ready for the length
+ready : (c : tie.After-pixels-for Inv-loop μ-loop)
+    → (let a = c .before .before .before .before .before .before .before .before .before .before .before .args in
+    let loop = c .before .before .before .loop in
+    Ready (a .shape) (c .before .numbered .result) (a .length) (size (a .src .now)) (size (loop .dst)) (size (loop .scratch)))
+ready c =
+    let a = c .before .before .before .before .before .before .before .before .before .before .before .args in
+    let pre = c .before .before .before .before .before .before .before .before .before .before .before .pre in
+    let loop = c .before .before .before .loop in
+    let rows = c .before .before .before .before .before .before .open-rows in
+    ready-numbered (a .shape) (a .length) _ _ _ (loop .n) (omega (arith, c .before .before .loop-test .taken)) (c .before .numbered .ensures)
+    (loop .inv .3 .same ∙ rows .kept .1 .1 .1 .1 .0) (loop .inv .2) pre
+
 raise-by-requires : tie.Need-raise-by-requires Inv-loop μ-loop
 raise-by-requires c κs =
-    let a = c .before .before .before .before .before .before .before .before .before .before .before .before .args in
-    let loop = c .before .before .before .before .loop in
-    let rows = c .before .before .before .before .before .before .before .open-rows in
-    ready-numbered (a .shape) (a .length) _ _ _ (loop .n) (omega (arith, c .before .before .before .loop-test .taken)) (c .before .before .numbered .ensures)
-    (loop .inv .3 .same ∙ rows .kept .1 .1 .1 .1 .0) (loop .inv .2)
-    (c .before .before .before .before .before .before .before .before .before .before .before .before .pre)
+    let at = c .before .before in
+    ready-pixels _ _ _ _ _ _ (at .pixels-for .ensures) (ready at)
 
 add-n : tie.Need-add-n Inv-loop μ-loop
-add-n c = omega (arith, c .before .before .before .before .before .before .before .before .loop-test .taken)
+add-n c = omega (arith, c .before .before .before .before .before .before .before .before .before .loop-test .taken)
 
 loop-less : tie.Need-loop-less Inv-loop μ-loop
-loop-less c = omega (arith, c .before .before .before .before .before .before .before .before .loop-test .taken)
+loop-less c = omega (arith, c .before .before .before .before .before .before .before .before .before .loop-test .taken)
 
 loop-again : tie.Need-loop-again Inv-loop μ-loop
 loop-again c =
-    let a = c .before .before .before .before .before .before .before .before .before .before .before .before .before .before .before .before .before .args in
-    let loop = c .before .before .before .before .before .before .before .before .before .loop in
+    let a = c .before .before .before .before .before .before .before .before .before .before .before .before .before .before .before .before .before .before .args in
+    let loop = c .before .before .before .before .before .before .before .before .before .before .loop in
     let raised = c .before .before .before .before .raise-by in
-    let number = c .before .before .before .before .before .before .before .numbered .ensures in (
+    let at = c .before .before .before .before .before .before .before in
+    let number = at .before .numbered .ensures in
+    let count = pixels-ready _ _ _ _ _ _ (at .pixels-for .ensures) (ready at) in (
       omega arith,
-      omega (arith, c .before .before .before .before .before .before .before .before .loop-test .taken),
+      omega (arith, c .before .before .before .before .before .before .before .before .before .loop-test .taken),
       raised .kept .1 .1 .1 .1 .1 .0 ∙ loop .inv .2,
       painted-as _ (painted-again (loop .inv .3) (raised .ensures))
           (λ x y h l.
           let v = inDirection (a .src .now) (a .shape) (a .length) x y in
-          ap (λ (m : ℕ). max m (openedPixel (a .src .now) (a .shape) (c .before .before .before .before .before .before .before .numbered .result)
-          (a .length) x y)) (loop .inv .3 .pixels x y h l)
-          ∙ ap (λ (d : Direction). max (greatest (table v (loop .n))) (openedPixel (a .src .now) (a .shape) d (a .length) x y)) number
+          let next : Direction → ℕ → ℕ = λ d k. max (greatest (table v (loop .n))) (openedPixel (a .src .now) (a .shape) d k x y) in
+          ap (λ (m : ℕ). max m (openedPixel (a .src .now) (a .shape) (at .before .numbered .result) (at .pixels-for .result) x y)) (loop .inv .3 .pixels x y h l)
+          ∙ ap (next (at .before .numbered .result)) count
+          ∙ ap (λ (d : Direction). next d (pixelsFor d (a .length))) number
           ∙ sym (greatest-more v (loop .n))),
     )
 
@@ -105,6 +122,7 @@ highest-into-spec =
     open-rows-requires
     loop-holds
     numbered-requires
+    pixels-for-requires
     raise-by-requires
     add-n
     loop-less

@@ -1,106 +1,105 @@
--- The lines below u are added up in the slice.
-use mathlib.Core.Path.{_≡_, refl, ap, _∙_}
-use Prim.Native.Nat.{ℕ, _-_, _≤_}
+-- Where a length counts pixels, bins and rest by pixels are those by length. Elsewhere the entries that can have no light are cleared.
+use mathlib.Core.Path.{sym, _∙_}
+use Prim.Native.Nat.{_-_, _≤_}
 use native.Mathlib.Omega.{arith}
-use lib.ListN.{length, getD}
-use Rattle.frame.specs.Lines.{lineCount}
-use Rattle.sizes.proofs.Calls.{zeros-length}
-use Rattle.sizes.proofs.Gathered.{count-is-lines, Summing, summing-start, summing-more, summing-modest, summing-end}
+use lib.ListN.{length, length-take}
+use lib.Seq.{length-take-le}
+use Rattle.sizes.specs.Sums.{pixelSum}
+use Rattle.sizes.proofs.Spreads.{sums-straight}
+use Rattle.sizes.proofs.Gathered.{lit-some, frame-cleared}
 use borrow.Author.Needs.{needs}
 use Rattle.sizes.proofs.frames.set_sums.Statement.{statement}
 use Rattle.sizes.proofs.frames.set_sums.Tie as tie
 
-abbrev Inv-loop : tie.InvT-loop
-Inv-loop src shape d sums₀ scratch₀ count u₀ sums scratch u = (u ≤ count) × (length scratch ≡ length scratch₀) × Summing src shape d (length sums₀) u sums
+is-straight-requires : tie.Need-is-straight-requires
+is-straight-requires c κs = search needs
 
-abbrev μ-loop : tie.MeasureT-loop
-μ-loop src shape d sums₀ scratch₀ count u₀ sums scratch u = count - u
+set-by-pixels-requires : tie.Need-set-by-pixels-requires
+set-by-pixels-requires c κs = search needs
 
-lines-of-requires : tie.Need-lines-of-requires Inv-loop μ-loop
-lines-of-requires c κs = search needs
-
-clear-requires : tie.Need-clear-requires Inv-loop μ-loop
-clear-requires c κs = search needs
-
-loop-holds : tie.Need-loop-holds Inv-loop μ-loop
-loop-holds c =
-    let entry = c .before .before .before .before .before .before .before .before in
-    let src = entry .args .src .now in
-    let sh = entry .args .shape in
-    let d = entry .args .d in
-    let ok = entry .pre .0 .ok in
-    let n = length (entry .args .sums .now) in
-    let cleared = c .before .before .clear .ensures in
-    let entries = ap length cleared ∙ zeros-length n in
-    (search needs, refl, rw entries (summing-start src sh d n _ cleared))
-
-add-line-of-requires : tie.Need-add-line-of-requires Inv-loop μ-loop
-add-line-of-requires c κs =
-    let entry = c .before .before .before .before .before .before .before .before .before .before .before .before in
-    let src = entry .args .src .now in
-    let sh = entry .args .shape in
-    let d = entry .args .d in
-    let ok = entry .pre .0 .ok in
-    let n = length (entry .args .sums .now) in
-    let cleared = c .before .before .before .before .before .before .clear .ensures in
-    let entries = ap length cleared ∙ zeros-length n in
-    let lines = count-is-lines sh d ok (c .before .before .before .before .before .before .before .before .lines-of .ensures) in
-    let at = c .before .before .before .loop in
-    let known = c .before .before .before .before .before .before .before .before .before .before .before .shared-slice-known .given in
-    let dim : (i : ℕ) → getD src i 0 ≤ 255 = λ i. omega (arith, known i) in (
-      entry .pre .0,
-      omega (arith, lines),
-      omega (arith, at .inv .1, entry .pre .1),
-      omega (arith, at .inv .2 .same, entries, entry .pre .2),
-      summing-modest src sh d _ ok dim (at .u) (at .sums) (omega (arith, lines)) (at .inv .2),
-    )
-
-add-u : tie.Need-add-u Inv-loop μ-loop
-add-u c = search needs
-
-loop-less : tie.Need-loop-less Inv-loop μ-loop
-loop-less c = search needs
-
-loop-again : tie.Need-loop-again Inv-loop μ-loop
-loop-again c =
-    let at = c .before .before .before .before .before .before .before .before .loop in
-    let added = c .before .before .before .before .add-line-of .ensures in
-    (omega arith, added .1 ∙ at .inv .1, summing-more _ _ _ _ (at .u) (at .sums) _ (at .inv .2) (added .0))
-
-same-length : tie.Need-same-length Inv-loop μ-loop
+same-length : tie.Need-same-length
 same-length c = search needs
 
-same-length-2 : tie.Need-same-length-2 Inv-loop μ-loop
+same-length-2 : tie.Need-same-length-2
 same-length-2 c = search needs
 
-returns : tie.Need-returns Inv-loop μ-loop
+returns : tie.Need-returns
 returns c =
-    let entry = c .before .before .before .before .before .before .before .before .before .before in
-    let src = entry .args .src .now in
-    let sh = entry .args .shape in
-    let d = entry .args .d in
-    let ok = entry .pre .0 .ok in
-    let n = length (entry .args .sums .now) in
-    let cleared = c .before .before .before .before .clear .ensures in
-    let entries = ap length cleared ∙ zeros-length n in
-    let lines = count-is-lines sh d ok (c .before .before .before .before .before .before .lines-of .ensures) in
-    let at = c .before .loop in
-    let past : at .u ≡ lineCount sh d = omega (arith, lines) in
-    record { set = summing-end src sh d n (at .sums) (entry .pre .2) (rw (entries, past) at (at .inv .2)); kept = at .inv .1 }
+    let entry = c .before .before .before .before .before .before .before .before .before .before .before .before in
+    let a = entry .args in
+    let straight = sym (c .before .before .before .before .before .before .before .before .is-straight .ensures) ∙ c .before .before .before .before .before .before .before .if1 .taken in
+    let set = c .before .before .before .before .set-by-pixels .ensures in
+    let same = sums-straight (a .d) (entry .pre .0 .ok .direction) straight (pixelSum (a .src .now) (a .shape) (a .d)) (length (a .sums .now) - 1) in
+    record { set = set .set ∙ same; kept = set .kept }
+
+entries-with-light-requires : tie.Need-entries-with-light-requires
+entries-with-light-requires c κs = search needs
+
+lit : (c : tie.After-entries-with-light) → (let a = c .before .before .before .before .before .before .args in (1 ≤ c .entries-with-light .result) × (c .entries-with-light .result ≤ length (a .sums .now)))
+lit c =
+    let entry = c .before .before .before .before .before .before in
+    lit-some (entry .args .shape) (entry .pre .0 .ok .frame) (length (entry .args .sums .now)) _ (entry .pre .2) (c .entries-with-light .ensures)
+
+slice-relend-prefix-set-slanted : tie.Need-slice-relend-prefix-set-slanted
+slice-relend-prefix-set-slanted c = search needs
+
+slice-aggregate-set-slanted : tie.Need-slice-aggregate-set-slanted
+slice-aggregate-set-slanted c = sym (length-take-le _ _ (lit (c .before) .1))
+
+set-slanted-requires : tie.Need-set-slanted-requires
+set-slanted-requires c κs =
+    let pre = c .before .before .before .before .before .before .before .before .pre in
+    let some = lit (c .before .before) in
+    (pre .0, pre .1, simp length-take (omega (arith, some, pre .2)), simp length-take (omega (arith, pre .3)))
+
+mul-clear : tie.Need-mul-clear
+mul-clear c = search needs
+
+sub-clear : tie.Need-sub-clear
+sub-clear c = search needs
+
+part-clear-start : tie.Need-part-clear-start
+part-clear-start c = search needs
+
+part-clear-end : tie.Need-part-clear-end
+part-clear-end c = search needs
+
+clear-requires : tie.Need-clear-requires
+clear-requires c κs = search needs
+
+same-length-3 : tie.Need-same-length-3
+same-length-3 c = search needs
+
+same-length-4 : tie.Need-same-length-4
+same-length-4 c = search needs
+
+returns-2 : tie.Need-returns-2
+returns-2 c =
+    let entry = c .before .before .before .before .before .before .before .before .before .before .before .before .before .before .before .before .before in
+    let a = entry .args in
+    let some = c .before .before .before .before .before .before .before .before .before .before .before .entries-with-light .ensures in
+    let set = c .before .before .before .before .before .before .before .before .set-slanted .ensures in
+    let cleared = c .before .before .clear .ensures in
+    record { set = frame-cleared (a .src .now) (a .shape) (a .d) (entry .pre .0 .ok) (a .sums .now) _ (entry .pre .2) some _ _ (set .set) cleared; kept = set .kept }
 
 pub set-sums-spec : {M : Type 1} → statement M
 set-sums-spec =
     tie.close
     (tie.spec
-    Inv-loop
-    μ-loop
-    lines-of-requires
-    clear-requires
-    loop-holds
-    add-line-of-requires
-    add-u
-    loop-less
-    loop-again
+    is-straight-requires
+    set-by-pixels-requires
     same-length
     same-length-2
-    returns)
+    returns
+    entries-with-light-requires
+    slice-relend-prefix-set-slanted
+    slice-aggregate-set-slanted
+    set-slanted-requires
+    mul-clear
+    sub-clear
+    part-clear-start
+    part-clear-end
+    clear-requires
+    same-length-3
+    same-length-4
+    returns-2)

@@ -32,7 +32,7 @@ set-sums-requires c κs =
     let scratch = entry .args .scratch .now in
     let answers = c .before .before .before .before .refusal .ensures in
     let fits = frame-fits sh d (length sums) (length src) (length scratch) answers (c .before .before .if1 .left) in
-    (fits .0, fits .1, omega (arith, fits .2))
+    (fits .0, fits .1, omega (arith, fits .2), fits .3)
 
 same-length : tie.Need-same-length
 same-length c = search needs
