@@ -71,7 +71,7 @@ impl Direction {
     }
 
     /// 'k is the smallest count from 1 up with (k−1)²·(p²+q²) ≥ (L−1)²·m², m the greater of |p| and |q|.'
-    /// '0 where the pair is no direction (out of range or (0, 0)), or the length is 0 or above 4,097'
+    /// The call hands back 0 where the pair is no direction, or the length is 0 or above 4,097.
     pub fn pixels_for(self, length: u64) -> u64 {
         if !self.is_direction() || !(1..=4097).contains(&length) {
             return 0;
@@ -222,7 +222,7 @@ pub fn sums_of_line(line: &[u8], bins: u64) -> Vec<u64> {
     bins_and_rest(&by_length)
 }
 
-/// The size sums of a frame in one direction 'take the sum for each length with that length's k', and 'the rest with that of K+1'.
+/// The size sums of a frame in one direction 'take the sum for each length with that length's k', the rest with that of K+1 ('4,097 is meant here too').
 pub fn sums_of_frame(src: &[u8], shape: Shape, d: Direction, bins: u64) -> Vec<u64> {
     let lines: Vec<Vec<u8>> = lines(shape, d).values().map(|places| pixels(src, shape, places)).collect();
     let sum_for = |count: u64| -> u64 { lines.iter().map(|line| total(&opened(line, count))).sum() };
