@@ -5,13 +5,12 @@
 --   stands-next                      the next length stands for as many pixels, or one more
 --   asked-is, asked-none             what `pixels_for` hands back, of a direction and a length of 1 to 4,097, and else
 -- Assumes nothing.
-use mathlib.Core.Path.{_≡_, refl, sym, ap, _∙_}
-use mathlib.Core.Bool.{Bool, true, false}
+use mathlib.Core.Path.{_≡_, sym, _∙_}
+use mathlib.Core.Bool.{true, false}
 use mathlib.Core.Logic.{_⊎_}
-use Prim.Native.Nat.{ℕ, suc, _+_, _-_, _*_, _≤_, _<_, max}
+use Prim.Native.Nat.{ℕ, suc, _+_, _-_, _*_, _≤_, max}
 use native.Mathlib.Omega.{arith}
 use borrow.Author.Tests.{leb-true, leb-false, le-leb, lt-leb}
-use lib.Dec.{leb}
 use lib.IntN.{natAbs}
 use Rattle.answer.specs.Limits.{longest}
 use Rattle.frame.specs.declared.direction.Direction.{Direction}

@@ -4,7 +4,6 @@ use Prim.Native.Nat.{_-_, _≤_, _<_}
 use native.Mathlib.Omega.{arith}
 use Rattle.frame.specs.Length.{countFor}
 use Rattle.frame.proofs.Lengths.{count-some, count-most, count-below, count-above}
-use borrow.Author.Needs.{needs}
 use Rattle.frame.proofs.length.count_for.Statement.{statement}
 use Rattle.frame.proofs.length.count_for.Tie as tie
 

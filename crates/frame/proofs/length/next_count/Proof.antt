@@ -3,7 +3,6 @@ use mathlib.Core.Path.{sym, _∙_}
 use native.Mathlib.Numerals.{add-one}
 use native.Mathlib.Omega.{arith}
 use Rattle.frame.proofs.Lengths.{count-some, count-within, count-stays, count-grows}
-use borrow.Author.Needs.{needs}
 use Rattle.frame.proofs.length.next_count.Statement.{statement}
 use Rattle.frame.proofs.length.next_count.Tie as tie
 

@@ -4,7 +4,6 @@ use mathlib.Core.Logic.{⊎-elim}
 use Prim.Native.Nat.{max}
 use native.Mathlib.Omega.{arith}
 use Rattle.frame.proofs.Shapes.{framed}
-use borrow.Author.Needs.{needs}
 use Rattle.sizes.proofs.frames.entries_with_light.Statement.{statement}
 use Rattle.sizes.proofs.frames.entries_with_light.Tie as tie
 
