@@ -15,6 +15,8 @@ mod cases;
 mod definitions;
 #[path = "referee/draw.rs"]
 mod draw;
+#[path = "referee/highest_cases.rs"]
+mod highest_cases;
 #[path = "referee/marked.rs"]
 mod marked;
 #[path = "referee/refusals.rs"]

@@ -20,9 +20,7 @@ Answer c_dilate(const uint8_t *src, size_t m, size_t length, uint8_t *dst, size_
 Answer c_open_line(const uint8_t *src, size_t n, size_t length, uint8_t *dst, size_t room, uint8_t *scratch, size_t spare);
 Answer c_gather(const uint8_t *src, size_t bytes, size_t width, size_t height, size_t stride, int64_t p, int64_t q, int64_t line, uint8_t *dst, size_t room);
 Answer c_highest(const uint8_t *src, size_t bytes, size_t width, size_t height, size_t stride, size_t length, uint8_t *dst, size_t room,
-                 uint8_t *scratch, size_t spare);
-Answer c_direction_frame(const uint8_t *src, size_t bytes, size_t width, size_t height, size_t stride, size_t length, uint8_t *dst, size_t room,
-                         uint8_t *scratch, size_t spare);
+                 uint8_t *directions, size_t directions_room, uint8_t *scratch, size_t spare);
 Answer c_sums_of_frame(const uint8_t *src, size_t bytes, size_t width, size_t height, size_t stride, int64_t p, int64_t q, uint64_t *sums, size_t entries,
                        uint8_t *scratch, size_t spare);
 double c_mean(const uint64_t *sums, size_t entries);

@@ -8,6 +8,7 @@ use crate::texts::{read, sums_text};
 
 /// The sizes of the arrays in crates/vectors, which no case outgrows but by its guard.
 const BYTES: usize = 131072;
+const DIRECTIONS: usize = 16384;
 const SUMS: usize = 4224;
 const SCRATCH: usize = 49152;
 
@@ -27,6 +28,7 @@ struct Got {
 struct Lent {
     src: Vec<u8>,
     dst: Vec<u8>,
+    directions: Vec<u8>,
     sums: Vec<u64>,
     scratch: Vec<u8>,
 }
@@ -49,6 +51,7 @@ fn lend(c: &Case) -> Lent {
     Lent {
         src: source(c),
         dst: draw::bytes(guarded(c.dst, BYTES), 0, c.seed + 1),
+        directions: draw::bytes(guarded(c.directions, DIRECTIONS), 0, c.seed + 4),
         sums: draw::sums(guarded(entries, SUMS), c.kind, c.seed + 2),
         scratch: draw::bytes(guarded(c.scratch, SCRATCH), 0, c.seed + 3),
     }
@@ -178,17 +181,14 @@ fn frame_opened(c: &Case, lent: &mut Lent) -> Got {
     let (shape, d) = (c.shape(), c.direction());
     let refusal = match c.call {
         OPEN_FRAME => refusals::open_frame(shape, d, c.length, c.src, c.dst, c.scratch),
-        HIGHEST => refusals::highest(shape, c.length, c.src, c.dst, c.scratch),
-        _ => refusals::direction_frame(shape, c.length, c.src, c.dst, c.scratch),
+        _ => refusals::highest(shape, c.length, c.src, c.dst, c.directions, c.scratch),
     };
     if let Some(refusal) = refusal {
         return refused(refusal);
     }
-    let mut other = lent.dst.clone();
     match c.call {
         OPEN_FRAME => open_frame(&lent.src, shape, d, c.length, &mut lent.dst),
-        HIGHEST => sixteen(&lent.src, shape, c.length, &mut lent.dst, &mut other),
-        _ => sixteen(&lent.src, shape, c.length, &mut other, &mut lent.dst),
+        _ => sixteen(&lent.src, shape, c.length, &mut lent.dst, &mut lent.directions),
     }
     done(0)
 }
@@ -255,7 +255,7 @@ fn called(c: &Case, lent: &mut Lent) -> Got {
         PIXELS_FOR => pixels_counted(c),
         GATHER => gathered(c, lent),
         SCATTER => scattered(c, lent),
-        OPEN_FRAME | HIGHEST | DIRECTION_FRAME => frame_opened(c, lent),
+        OPEN_FRAME | HIGHEST => frame_opened(c, lent),
         SUMS_OF_LINE | SUMS_OF_FRAME => summed(c, lent),
         ROSE => rose_shown(c, lent),
         SUMS_TEXT => sums_printed(c, lent),
@@ -270,6 +270,7 @@ pub fn answer(number: usize, c: &Case) -> String {
     let mut lent = lend(c);
     let got = called(c, &mut lent);
     let from = if got.number == 0 { (c.scratch as usize).min(lent.scratch.len()) } else { 0 };
-    let left = check_bytes(check_sums(check_bytes(1, &lent.dst), &lent.sums), &lent.scratch[from..]);
+    let destinations = check_bytes(check_bytes(1, &lent.dst), &lent.directions);
+    let left = check_bytes(check_sums(destinations, &lent.sums), &lent.scratch[from..]);
     format!("{number}\t{}\t{}\t{:x}\t{:x}\t{left:x}", got.number, got.figure, got.first, got.second)
 }

@@ -1,8 +1,9 @@
 // The cases of crates/vectors: which calls are made, on buffers of which sizes, and with which arguments.
-// A case is a line of thirteen numbers; what a call does not take is 0. An input has the bytes of its text behind them. See `families` for what is covered and why.
+// A case is a line of fourteen numbers; what a call does not take is 0. An input has the bytes of its text behind them. See `families` for what is covered and why.
 
 use crate::definitions::{lines, stretches as stretches_of, Direction, Shape, NUMBERED};
 use crate::draw::{self, Draws};
+use crate::highest_cases::{highest_destinations, highest_drawn, highest_limits, highest_refused, highest_rooms};
 use crate::slanted_cases::{openings_long, openings_slanted, pixels_of_lengths, roses_wide, sums_shared, sums_slanted};
 use crate::text_cases::{inputs_edited, inputs_large, inputs_numbers, inputs_refused, inputs_whole, sums_texts};
 
@@ -24,7 +25,6 @@ pub const GATHER: u64 = 20;
 pub const SCATTER: u64 = 21;
 pub const OPEN_FRAME: u64 = 22;
 pub const HIGHEST: u64 = 23;
-pub const DIRECTION_FRAME: u64 = 24;
 pub const SUMS_OF_LINE: u64 = 30;
 pub const SUMS_OF_FRAME: u64 = 31;
 pub const ROSE: u64 = 32;
@@ -33,11 +33,11 @@ pub const SUMS_TEXT: u64 = 40;
 pub const READ_INPUT: u64 = 41;
 
 /// The numbers of the calls, with the names that the report gives them.
-pub const CALLS: [(u64, &str); 23] = [
+pub const CALLS: [(u64, &str); 22] = [
     (ERODE, "erosion"), (DILATE, "dilation"), (OPEN_LINE, "opening of a line"), (STRETCHES, "stretches"), (COUNT, "count of stretches"),
     (ENCLOSERS, "enclosers"), (ROW, "row"), (LINES_OF, "lines of a frame"), (DIRECTION, "direction: range, shallow, turned"), (NUMBER, "numbered direction"), (SHAPE, "shape"),
     (PIXELS_FOR, "pixels of a length"),
-    (GATHER, "gathering"), (SCATTER, "scattering"), (OPEN_FRAME, "frame opening"), (HIGHEST, "highest"), (DIRECTION_FRAME, "direction frame"),
+    (GATHER, "gathering"), (SCATTER, "scattering"), (OPEN_FRAME, "frame opening"), (HIGHEST, "highest and its direction"),
     (SUMS_OF_LINE, "sums of a line"), (SUMS_OF_FRAME, "sums of a frame"), (ROSE, "rose and its refusal"), (SUMMARY, "summary"),
     (SUMS_TEXT, "sums text"), (READ_INPUT, "input"),
 ];
@@ -65,6 +65,7 @@ pub struct Case {
     pub length: u64,
     pub src: u64,
     pub dst: u64,
+    pub directions: u64,
     pub scratch: u64,
     pub given: Vec<u8>,
 }
@@ -80,7 +81,7 @@ impl Case {
 
     /// The line of the file: sizes are written as signed numbers, so that the largest is -1.
     pub fn text(&self) -> String {
-        let sizes = [self.length, self.src, self.dst, self.scratch].map(|n| (n as i64).to_string()).join(" ");
+        let sizes = [self.length, self.src, self.dst, self.directions, self.scratch].map(|n| (n as i64).to_string()).join(" ");
         let shape = [self.width, self.height, self.stride].map(|n| (n as i64).to_string()).join(" ");
         let given: String = self.given.iter().map(|byte| format!(" {byte}")).collect();
         format!("{} {} {} {} {} {} {} {}{given}", self.call, self.kind, self.seed, shape, self.p, self.q, self.line, sizes)
@@ -109,16 +110,20 @@ impl Cases {
         self.frame_of(call, 1, most)
     }
 
-    /// A frame of `least` to `most` pixels a side, its gap at most 3, buffers that just fit or are a little longer, and scratch for every call.
+    /// A frame of `least` to `most` pixels a side, its gap at most 3, source, destination and scratch that just fit or are a little longer; the directions just fit.
     pub fn frame_of(&mut self, call: u64, least: u64, most: u64) -> Case {
         let d = &mut self.draws;
         let (width, height) = (d.within(least, most), d.within(least, most));
         let stride = width + d.below(4);
         let bytes = (height - 1) * stride + width;
-        let scratch = 8 * width.max(height) + if call == DIRECTION_FRAME { width * height } else { 0 };
-        let (src, dst, scratch) = (bytes + d.below(3), bytes + d.below(3), scratch + d.below(2));
-        Case { call, kind: d.below(7), width, height, stride, length: d.within(1, 9), src, dst, scratch, ..Case::default() }
+        let (src, dst, scratch) = (bytes + d.below(3), bytes + d.below(3), 8 * width.max(height) + d.below(2));
+        Case { call, kind: d.below(7), width, height, stride, length: d.within(1, 9), src, dst, directions: directions_for(call, bytes), scratch, ..Case::default() }
     }
+}
+
+/// The size of the second destination: only the highest opening has one.
+fn directions_for(call: u64, bytes: u64) -> u64 {
+    if call == HIGHEST { bytes } else { 0 }
 }
 
 /// Every pair that is a direction, numbered or odd.
@@ -273,32 +278,43 @@ fn openings(cases: &mut Cases) {
             cases.add(case.at(pair));
         }
     }
-    for call in [HIGHEST, DIRECTION_FRAME] {
-        for i in 0..100 {
-            let mut case = cases.frame(call, if i < 70 { 7 } else { 16 });
-            case.kind = i % 7;
-            case.length = cases.draws.within(1, 6);
-            cases.add(case);
-        }
+    for i in 0..200 {
+        let mut case = cases.frame(HIGHEST, if i < 140 { 7 } else { 16 });
+        case.kind = i % 7;
+        case.length = cases.draws.within(1, 6);
+        case.directions += i % 3;
+        case.scratch += if i % 2 == 1 { case.width * case.height } else { 0 };
+        cases.add(case);
     }
 }
 
-/// A frame of 5 by 4 with every set of its rules broken: shape, direction, length or sums, source, destination, scratch.
+/// How many sets of rules `broken` can break.
+pub fn sets_of_rules(call: u64) -> u64 {
+    if call == HIGHEST { 128 } else { 64 }
+}
+
+/// The case of a frame that fits with a set of its rules broken, a bit each: shape, direction, length or sums, source, destination, scratch, directions.
+pub fn broken(fits: &Case, set: u64) -> Case {
+    let is = |rule: u64| set >> rule & 1 == 1;
+    let mut case = fits.clone();
+    case.stride = if is(0) { case.width - 1 } else { case.stride };
+    case.p *= if is(1) { 128 } else { 1 };
+    case.length *= if is(2) { 0 } else { 1 };
+    case.dst = if is(2) && case.call == SUMS_OF_FRAME { 1 } else { case.dst };
+    case.src -= if is(3) { 1 } else { 0 };
+    case.dst -= if is(4) { 1 } else { 0 };
+    case.scratch = if is(5) { 8 * case.width.max(case.height) - 1 } else { case.scratch };
+    case.directions -= if is(6) { 1 } else { 0 };
+    case
+}
+
+/// A frame of 5 by 4 with every set of its rules broken.
 fn frames_refused(cases: &mut Cases) {
-    for call in [OPEN_FRAME, HIGHEST, DIRECTION_FRAME, SUMS_OF_FRAME, ROSE] {
-        for broken in 0..64u64 {
-            let is = |rule: u64| broken >> rule & 1 == 1;
-            let scratch = if call == DIRECTION_FRAME { 60 } else { 40 };
-            let dst = if call == SUMS_OF_FRAME { 4 } else { 23 };
-            let mut case = Case { call, width: 5, height: 4, stride: 6, p: 2, q: 1, length: 3, src: 23, dst, scratch, ..Case::default() };
-            case.stride -= if is(0) { 2 } else { 0 };
-            case.p *= if is(1) { 128 } else { 1 };
-            case.length *= if is(2) { 0 } else { 1 };
-            case.dst = if is(2) && call == SUMS_OF_FRAME { 1 } else { case.dst };
-            case.src -= if is(3) { 1 } else { 0 };
-            case.dst -= if is(4) { 1 } else { 0 };
-            case.scratch -= if is(5) { 1 } else { 0 };
-            cases.add(case);
+    for call in [OPEN_FRAME, HIGHEST, SUMS_OF_FRAME, ROSE] {
+        let dst = if call == SUMS_OF_FRAME { 4 } else { 23 };
+        let fits = Case { call, width: 5, height: 4, stride: 6, p: 2, q: 1, length: 3, src: 23, dst, directions: directions_for(call, 23), scratch: 40, ..Case::default() };
+        for set in 0..sets_of_rules(call) {
+            cases.add(broken(&fits, set));
         }
     }
 }
@@ -309,14 +325,14 @@ const LARGE: [(u64, u64); 7] = [(4096, 1), (4096, 2), (1, 4096), (2, 4096), (409
 /// A large frame with no gap and buffers that just fit, or of 8,192 bytes where the frame has more.
 fn large(call: u64, (width, height): (u64, u64), length: u64) -> Case {
     let bytes = (width * height).min(8192);
-    let scratch = 8 * width.max(height) + if call == DIRECTION_FRAME { bytes } else { 0 };
+    let scratch = 8 * width.max(height);
     let dst = if call == SUMS_OF_FRAME { 4 } else { bytes };
-    Case { call, kind: length % 7, width, height, stride: width, length, src: bytes, dst, scratch, ..Case::default() }
+    Case { call, kind: length % 7, width, height, stride: width, length, src: bytes, dst, directions: directions_for(call, bytes), scratch, ..Case::default() }
 }
 
 /// Sides of 4,096 and 4,097, lengths of 4,096 and 4,097, and one byte too few in each buffer.
 fn frames_large(cases: &mut Cases) {
-    for call in [OPEN_FRAME, HIGHEST, DIRECTION_FRAME, SUMS_OF_FRAME, ROSE] {
+    for call in [OPEN_FRAME, HIGHEST, SUMS_OF_FRAME, ROSE] {
         for sides in LARGE {
             for (length, pair) in [(4096, (1, 0)), (4097, (0, 1)), (9, (4, -1)), (4, (-255, 254))] {
                 cases.add(large(call, sides, length).at(pair));
@@ -327,7 +343,22 @@ fn frames_large(cases: &mut Cases) {
                 *buffer[short] -= 1;
                 cases.add(case);
             }
+            if call == HIGHEST {
+                destinations_large(cases, sides);
+            }
         }
+    }
+}
+
+/// The highest of a large frame with more scratch than it needs; its second destination one byte too short; either destination empty.
+fn destinations_large(cases: &mut Cases, sides: (u64, u64)) {
+    for length in [4096, 2048, 9, 4] {
+        let case = large(HIGHEST, sides, length);
+        cases.add(Case { scratch: case.scratch + case.src, ..case });
+    }
+    let fits = large(HIGHEST, sides, 3);
+    for (dst, directions) in [(fits.dst, fits.directions - 1), (0, fits.directions), (fits.dst, 0)] {
+        cases.add(Case { dst, directions, ..fits.clone() });
     }
 }
 
@@ -348,15 +379,17 @@ fn lines_of_large(cases: &mut Cases) {
     }
 }
 
-/// Strides that are the widest, one more, and as wide as the frame.
+/// Strides that are the widest, one more, and as wide as the frame; the second destination of the highest just fits and is one byte too short.
 fn frames_strided(cases: &mut Cases) {
+    let calls = [(OPEN_FRAME, 0), (HIGHEST, 0), (HIGHEST, 1), (SUMS_OF_FRAME, 0), (ROSE, 0), (ROW, 0)];
     for (stride, src) in [(65535, 8192), (65536, 8192), (4000, 8006), (4000, 8005), (7, 20), (6, 18), (5, 16)] {
-        for call in [OPEN_FRAME, HIGHEST, DIRECTION_FRAME, SUMS_OF_FRAME, ROSE, ROW] {
-            cases.add(Case { call, width: 6, height: 3, stride, length: 2, src, dst: src.min(if call == SUMS_OF_FRAME { 5 } else { 9999 }), scratch: 66, ..Case::default() }.at((1, 1)));
+        for (call, short) in calls {
+            let (dst, directions) = (src.min(if call == SUMS_OF_FRAME { 5 } else { 9999 }), directions_for(call, src) - short);
+            cases.add(Case { call, width: 6, height: 3, stride, length: 2, src, dst, directions, scratch: 66, ..Case::default() }.at((1, 1)));
         }
     }
-    for call in [OPEN_FRAME, HIGHEST, DIRECTION_FRAME, SUMS_OF_FRAME, ROSE, ROW] {
-        cases.add(Case { call, width: 6, height: 1, stride: 65535, length: 2, src: 6, dst: 6, scratch: 66, ..Case::default() }.at((1, 1)));
+    for (call, short) in calls {
+        cases.add(Case { call, width: 6, height: 1, stride: 65535, length: 2, src: 6, dst: 6, directions: directions_for(call, 6) - short, scratch: 66, ..Case::default() }.at((1, 1)));
     }
 }
 
@@ -424,7 +457,7 @@ fn fit_table(cases: &mut Cases, n: u64, kind: u64) {
     }
 }
 
-/// All cases, the small ones first, then those of the texts, then the enclosers, then those of lengths that mean fewer pixels.
+/// All cases, the small ones first, then those of the texts, then the enclosers, then those of lengths that mean fewer pixels, then those of the highest opening's two destinations.
 pub fn families() -> Vec<Case> {
     let mut cases = Cases { list: Vec::new(), draws: Draws(20_250_607) };
     for family in [lines_small, stretches_and_rows, lookups, gathers, openings, sums, summaries, frames_refused, lines_refused, frames_strided, lines_long, lines_of_large, frames_large] {
@@ -434,6 +467,9 @@ pub fn families() -> Vec<Case> {
         family(&mut cases);
     }
     for family in [pixels_of_lengths, openings_slanted, openings_long, sums_shared, sums_slanted, roses_wide] {
+        family(&mut cases);
+    }
+    for family in [highest_rooms, highest_destinations, highest_refused, highest_limits, highest_drawn] {
         family(&mut cases);
     }
     cases.list

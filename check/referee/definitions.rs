@@ -149,10 +149,11 @@ pub fn open_frame(src: &[u8], shape: Shape, d: Direction, length: u64, dst: &mut
 }
 
 /// 'The highest opening takes, at each pixel, the greatest over the sixteen; the direction frame holds the lowest number that reaches it.'
-pub fn sixteen(src: &[u8], shape: Shape, length: u64, highest: &mut [u8], direction: &mut [u8]) {
+/// 'Make it one call with two destinations': the bytes of either that are no pixel stay.
+pub fn sixteen(src: &[u8], shape: Shape, length: u64, dst: &mut [u8], directions: &mut [u8]) {
     let openings: Vec<Vec<u8>> = (0..16)
         .map(|n| {
-            let mut opened = highest.to_vec();
+            let mut opened = vec![0; shape.bytes() as usize];
             open_frame(src, shape, numbered(n), length, &mut opened);
             opened
         })
@@ -160,8 +161,8 @@ pub fn sixteen(src: &[u8], shape: Shape, length: u64, highest: &mut [u8], direct
     for y in 0..shape.height {
         for x in 0..shape.width {
             let at = shape.place(x, y);
-            highest[at] = openings.iter().map(|o| o[at]).max().unwrap();
-            direction[at] = openings.iter().position(|o| o[at] == highest[at]).unwrap() as u8;
+            dst[at] = openings.iter().map(|o| o[at]).max().unwrap();
+            directions[at] = openings.iter().position(|o| o[at] == dst[at]).unwrap() as u8;
         }
     }
 }

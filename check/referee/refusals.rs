@@ -75,32 +75,31 @@ pub fn scatter(shape: Shape, d: Direction, line: i64, src: u64, dst: u64) -> Opt
     })
 }
 
-/// Rules 5, 6 and 7 of a frame that rule 1 accepts.
-fn buffers(shape: Shape, src: u64, dst: u64, scratch: u64, more: u64) -> Option<Refusal> {
-    let (bytes, room) = (shape.bytes(), scratch_for(shape) + more);
-    first_broken(&[(src < bytes, 5, bytes), (dst < bytes, 6, bytes), (scratch < room, 7, room)])
+/// Rules 5, 6 and 7 of a frame that rule 1 accepts: one rule 6 for each destination, in their order.
+fn buffers(shape: Shape, src: u64, destinations: &[u64], scratch: u64) -> Option<Refusal> {
+    let (bytes, room) = (shape.bytes(), scratch_for(shape));
+    let mut rules = vec![(src < bytes, 5, bytes)];
+    rules.extend(destinations.iter().map(|&dst| (dst < bytes, 6, bytes)));
+    rules.push((scratch < room, 7, room));
+    first_broken(&rules)
 }
 
 pub fn open_frame(shape: Shape, d: Direction, length: u64, src: u64, dst: u64, scratch: u64) -> Option<Refusal> {
     no_shape_or_direction(shape, d)
         .or_else(|| first_broken(&[(outside(length, 1, 4096), 3, 0)]))
-        .or_else(|| buffers(shape, src, dst, scratch, 0))
+        .or_else(|| buffers(shape, src, &[dst], scratch))
 }
 
-pub fn highest(shape: Shape, length: u64, src: u64, dst: u64, scratch: u64) -> Option<Refusal> {
-    first_broken(&[(!shape.is_frame(), 1, 0), (outside(length, 1, 4096), 3, 0)]).or_else(|| buffers(shape, src, dst, scratch, 0))
-}
-
-/// 'the direction frame needs W·H bytes more'
-pub fn direction_frame(shape: Shape, length: u64, src: u64, dst: u64, scratch: u64) -> Option<Refusal> {
-    first_broken(&[(!shape.is_frame(), 1, 0), (outside(length, 1, 4096), 3, 0)])
-        .or_else(|| buffers(shape, src, dst, scratch, shape.width * shape.height))
+/// 'one call with two destinations': '6 is given when either destination is short, the brightness one first; the bytes needed are the same.'
+/// 'The W·H bytes of scratch that the direction frame needed are no longer asked.'
+pub fn highest(shape: Shape, length: u64, src: u64, dst: u64, directions: u64, scratch: u64) -> Option<Refusal> {
+    first_broken(&[(!shape.is_frame(), 1, 0), (outside(length, 1, 4096), 3, 0)]).or_else(|| buffers(shape, src, &[dst, directions], scratch))
 }
 
 pub fn sums_of_frame(shape: Shape, d: Direction, sums: u64, src: u64, scratch: u64) -> Option<Refusal> {
     no_shape_or_direction(shape, d)
         .or_else(|| first_broken(&[(outside(sums, 2, 4097), 4, 0)]))
-        .or_else(|| buffers(shape, src, u64::MAX, scratch, 0))
+        .or_else(|| buffers(shape, src, &[], scratch))
 }
 
 /// 'direction number above 15'; 'a destination too short, or the sums text's'
@@ -109,5 +108,5 @@ pub fn sums_text(direction: u64, sums: u64, bytes: u64, dst: u64) -> Option<Refu
 }
 
 pub fn rose(shape: Shape, src: u64, scratch: u64) -> Option<Refusal> {
-    first_broken(&[(!shape.is_frame(), 1, 0)]).or_else(|| buffers(shape, src, u64::MAX, scratch, 0))
+    first_broken(&[(!shape.is_frame(), 1, 0)]).or_else(|| buffers(shape, src, &[], scratch))
 }

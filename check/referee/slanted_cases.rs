@@ -1,6 +1,6 @@
 // The cases of lengths that mean fewer pixels than they count: the count itself in every direction, and the frame calls on frames whose lines have just as many pixels, one less or one more.
 
-use crate::cases::{directions, Case, Cases, DIRECTION_FRAME, HIGHEST, OPEN_FRAME, PIXELS_FOR, REFUSED, ROSE, SUMS_OF_FRAME};
+use crate::cases::{directions, Case, Cases, HIGHEST, OPEN_FRAME, PIXELS_FOR, REFUSED, ROSE, SUMS_OF_FRAME};
 use crate::definitions::{lines, Direction, Shape};
 
 /// Pairs whose p² + q² is a square, in every quarter: there a count can meet its length exactly, where it must not be one more.
@@ -59,12 +59,11 @@ pub fn openings_slanted(cases: &mut Cases) {
             cases.add(Case { length, ..case });
         }
     }
-    for call in [HIGHEST, DIRECTION_FRAME] {
-        for i in 0..35 {
-            let drawn = cases.frame_of(call, 16, 40);
-            let length = cases.draws.within(5, drawn.width.min(drawn.height) * 4 / 3);
-            cases.add(Case { kind: i % 7, length, ..drawn });
-        }
+    for i in 0..70 {
+        let drawn = cases.frame_of(HIGHEST, 16, 40);
+        let length = cases.draws.within(5, drawn.width.min(drawn.height) * 4 / 3);
+        let more = if i % 2 == 1 { drawn.width * drawn.height } else { 0 };
+        cases.add(Case { kind: i % 7, length, scratch: drawn.scratch + more, ..drawn });
     }
 }
 

@@ -11,7 +11,6 @@ ghost use Rattle.line.specs.Erosion.{ErodesLine};
 ghost use Rattle.line.specs.Dilation.{DilatesLine};
 ghost use Rattle.line.specs.Opening.{OpensLine};
 ghost use Rattle.opening.specs.Sixteen.{FindsHighest};
-ghost use Rattle.opening.specs.Directions.{FindsDirections};
 ghost use Rattle.sizes.specs.Frame.{SumsFrame};
 ghost use Rattle.sizes.specs.Summary.{summaryOf};
 
@@ -70,36 +69,17 @@ pub extern "C" fn c_highest(
     stride: usize,
     length: usize,
     dst: &mut [u8],
+    directions: &mut [u8],
     scratch: &mut [u8],
 ) -> Answer
-    ensures { λ r. ⌜ FindsHighest (now (src .entry)) (shape width height stride) length (now (dst .entry)) (now (dst .exit)) (now (scratch .entry)) (now (scratch .exit)) r ⌝ }
+    ensures { λ r. ⌜ FindsHighest (now (src .entry)) (shape width height stride) length (now (dst .entry)) (now (dst .exit)) (now (directions .entry)) (now (directions .exit)) (now (scratch .entry)) (now (scratch .exit)) r ⌝ }
 {
     let frame = Shape {
         width,
         height,
         stride,
     };
-    opening::highest(src, frame, length, dst, scratch)
-}
-
-#[no_mangle]
-pub extern "C" fn c_direction_frame(
-    src: &[u8],
-    width: usize,
-    height: usize,
-    stride: usize,
-    length: usize,
-    dst: &mut [u8],
-    scratch: &mut [u8],
-) -> Answer
-    ensures { λ r. ⌜ FindsDirections (now (src .entry)) (shape width height stride) length (now (dst .entry)) (now (dst .exit)) (now (scratch .entry)) (now (scratch .exit)) r ⌝ }
-{
-    let frame = Shape {
-        width,
-        height,
-        stride,
-    };
-    opening::direction_frame(src, frame, length, dst, scratch)
+    opening::highest(src, frame, length, dst, directions, scratch)
 }
 
 #[no_mangle]

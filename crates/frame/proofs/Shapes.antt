@@ -190,7 +190,7 @@ shift-is s h i k = rw (le-ltb (s .run) 1 (h .moves), le-ltb steepest (s .run) (h
 
 -- ---- without gaps
 
-pub gapless-framed : (sh : Shape) → isFrame sh ≡ true → isFrame (gapless sh) ≡ true
+gapless-framed : (sh : Shape) → isFrame sh ≡ true → isFrame (gapless sh) ≡ true
 gapless-framed sh e =
     let f = framed sh e in
     rw (le-ltb (sh .width) 1 (f .wide), le-ltb longest (sh .width) (f .width), le-ltb (sh .height) 1 (f .high), le-ltb longest (sh .height) (f .height), le-ltb (sh .width) (sh .width) (omega arith), le-ltb widest (sh .width) (omega (arith, f)))

@@ -4,7 +4,7 @@ use answer::WIDEST;
 use answer::is_outside;
 ghost use mathlib.Core.Path.{_≡_};
 ghost use mathlib.Core.Bool.{cond};
-ghost use Rattle.frame.specs.Shape.{isFrame, needed, scratchFor, gapless};
+ghost use Rattle.frame.specs.Shape.{isFrame, needed, scratchFor};
 
 // A frame's width and height in pixels, and how many bytes its rows are apart.
 pub struct Shape {
@@ -51,17 +51,5 @@ impl Shape {
             return 8 * height;
         }
         8 * width
-    }
-
-    // The same pixels without gaps: each row follows on the one above it.
-    pub fn gapless(self) -> Shape
-        ensures { λ r. ⌜ r ≡ gapless self ⌝ }
-    {
-        let width = self.width;
-        Shape {
-            width,
-            height: self.height,
-            stride: width,
-        }
     }
 }

@@ -1,19 +1,19 @@
 -- What the calls on a line answer, and what they know once they are not refused. Gathering and scattering have the same rules up to rule 2; then `size` bytes of
 -- source of which `from` are needed, and `room` bytes of destination of which `to` are.
 --   line-answer                what the tests answer that ask for the track's count
---   gather-done, scatter-done  a call that no rule refuses
+--   gather-done                a gathering that no rule refuses
 --   Fits, gather-fits, scatter-fits    what a call knows that is not refused
 -- Assumes nothing.
 use mathlib.Core.Path.{_≡_, refl, sym, _∙_}
 use mathlib.Core.Bool.{Bool, true, false, not, true≢false}
 use mathlib.Core.List.{List, [], _∷_}
-use Prim.Native.Nat.{ℕ, _≤_, _<_}
-use borrow.Author.Tests.{not-false, ltb-false, lt-ltb, le-ltb, ne-eqb, eq-eqb}
+use Prim.Native.Nat.{ℕ, _≤_}
+use borrow.Author.Tests.{not-false, ltb-false, le-ltb, ne-eqb}
 use lib.Dec.{ltb}
 use lib.ListN.{length}
 use lib.IntN.{ℤ}
 use Rattle.answer.specs.declared.Answer.{Answer}
-use Rattle.answer.specs.Rules.{Rule, rule, answer, refusal, done}
+use Rattle.answer.specs.Rules.{Rule, rule, answer, done}
 use Rattle.answer.proofs.Rules.{kept}
 use Rattle.frame.specs.declared.direction.Direction.{Direction}
 use Rattle.frame.specs.declared.shape.Shape.{Shape}
@@ -95,10 +95,6 @@ module _ (sh : Shape) (d : Direction) (k : ℤ) (size room : ℕ) where
   pub gather-done : Accepted sh d → noLine sh d k ≡ false → needed sh ≤ size → length (pixels sh d k) ≤ room
       → answer (gatherRules sh d k size room) (length (pixels sh d k)) ≡ done (length (pixels sh d k))
   gather-done = accepted-call sh d k size (needed sh) room (length (pixels sh d k))
-
-  pub scatter-done : Accepted sh d → noLine sh d k ≡ false → length (pixels sh d k) ≤ size → needed sh ≤ room
-      → answer (scatterRules sh d k size room) (length (pixels sh d k)) ≡ done (length (pixels sh d k))
-  scatter-done = accepted-call sh d k size (length (pixels sh d k)) room (needed sh)
 
   pub gather-fits : {a : Answer} → a ≡ answer (gatherRules sh d k size room) (length (pixels sh d k)) → a .number ≡ 0 → Fits sh d k size room
   gather-fits e z =

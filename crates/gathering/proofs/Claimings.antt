@@ -14,14 +14,13 @@ use borrow.Author.Tests.{le-leb}
 use Rattle.frame.specs.declared.direction.Direction.{Direction}
 use Rattle.frame.specs.declared.shape.Shape.{Shape}
 use Rattle.frame.specs.Direction.{isDirection}
-use Rattle.frame.specs.Shape.{isFrame, needed, gapless}
+use Rattle.frame.specs.Shape.{isFrame, needed}
 use Rattle.frame.specs.Lines.{Pixel, pixels, empty, place}
 use Rattle.frame.specs.Span.{trackOf}
 use Rattle.frame.specs.Sweep.{Accepted}
 use Rattle.frame.proofs.Shapes.{accepted-or-not}
 use Rattle.frame.proofs.Tracks.{track-none}
-use Rattle.gathering.specs.Scattering.{raised}
-use Rattle.gathering.specs.Claiming.{held, claimFits, ClaimsLine}
+use Rattle.gathering.specs.Claiming.{raised, held, claimFits, ClaimsLine}
 
 nothing : (cs : List Pixel) → empty cs ≡ true → cs ≡ []
 nothing [] e = refl
@@ -43,17 +42,17 @@ module _ (values : List ℕ) (n : ℕ) (sh : Shape) (d : Direction) (k : ℤ) (b
           let none = nothing (pixels sh d k) (track-none sh d ok k z) in
           let fit = claimFits sh d k (length values) (length best) (length holders) in
           record {
-            raises = either fit _ best (ap (λ (cs : List Pixel). raised (map (place (gapless sh)) cs) values best) none);
-            names = either fit _ holders (ap (λ (cs : List Pixel). held n (map (place (gapless sh)) cs) (map (place sh) cs) values best holders) none);
+            raises = either fit _ best (ap (λ (cs : List Pixel). raised (map (place sh) cs) values best) none);
+            names = either fit _ holders (ap (λ (cs : List Pixel). held n (map (place sh) cs) values best holders) none);
           }
       go (inr e) = claim-unfit (rw e)
 
-  module _ (ok : Accepted sh d) (enough : length (pixels sh d k) ≤ length values) (room : needed (gapless sh) ≤ length best) (whole : needed sh ≤ length holders) where
+  module _ (ok : Accepted sh d) (enough : length (pixels sh d k) ≤ length values) (room : needed sh ≤ length best) (whole : needed sh ≤ length holders) where
     pub claim-fits : claimFits sh d k (length values) (length best) (length holders) ≡ true
     claim-fits =
-        rw (ok .frame, ok .direction, le-leb (length (pixels sh d k)) (length values) enough, le-leb (needed (gapless sh)) (length best) room, le-leb (needed sh) (length holders) whole)
+        rw (ok .frame, ok .direction, le-leb (length (pixels sh d k)) (length values) enough, le-leb (needed sh) (length best) room, le-leb (needed sh) (length holders) whole)
 
-    pub claim-made : (best′ holders′ : List ℕ) → best′ ≡ raised (map (place (gapless sh)) (pixels sh d k)) values best
-        → holders′ ≡ held n (map (place (gapless sh)) (pixels sh d k)) (map (place sh) (pixels sh d k)) values best holders
+    pub claim-made : (best′ holders′ : List ℕ) → best′ ≡ raised (map (place sh) (pixels sh d k)) values best
+        → holders′ ≡ held n (map (place sh) (pixels sh d k)) values best holders
         → ClaimsLine values n sh d k best best′ holders holders′
     claim-made best′ holders′ r h = record { raises = rw claim-fits r; names = rw claim-fits h }

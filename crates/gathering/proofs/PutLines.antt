@@ -1,34 +1,30 @@
 -- Values put back to a line of a frame, pixel by pixel.
 --   LineSet                    the pixels of a line are set, and nothing else
 --   put-line, held-line        what values put to the line's places, and holders named there, set
---   raise-line, claim-raises, claim-names    what the calls leave where they are not refused
+--   claim-raises, claim-names  what a claim leaves that is made
 -- Assumes nothing.
 use mathlib.Core.Path.{_≡_, sym, ap, ap₂, _∙_, subst}
-use mathlib.Core.Bool.{true, false}
+use mathlib.Core.Bool.{true}
 use mathlib.Core.List.{List, map, List·Memᴰ, Memᴰ·of-map}
 use Prim.Native.Nat.{ℕ, _≤_, _<_, max}
 use native.Mathlib.Omega.{arith}
 use lib.ListN.{length, getD, length-map}
 use lib.IntN.{ℤ}
-use Rattle.answer.specs.declared.Answer.{Answer}
-use Rattle.answer.proofs.Rules.{after-done}
 use Rattle.frame.specs.declared.direction.Direction.{Direction}
 use Rattle.frame.specs.declared.shape.Shape.{Shape}
-use Rattle.frame.specs.Shape.{needed, gapless}
-use Rattle.frame.specs.Lines.{lineOf, at, pixels, noLine, place, indexIn}
+use Rattle.frame.specs.Shape.{needed}
+use Rattle.frame.specs.Lines.{lineOf, at, pixels, place, indexIn}
 use Rattle.frame.specs.Painted.{Gap}
 use Rattle.frame.specs.Sweep.{Accepted}
-use Rattle.frame.proofs.Shapes.{gapless-accepted}
 use Rattle.frame.proofs.Pixels.{its-line, on-its-line}
 use Rattle.frame.proofs.Partition.{place-once, line-once}
 use Rattle.frame.proofs.Spots.{index-in}
 use Rattle.frame.proofs.ByLines.{map-at}
 use Rattle.frame.proofs.Alongs.{row-ends}
-use Rattle.gathering.specs.Scattering.{put, raised, Raises}
+use Rattle.gathering.specs.Scattering.{put}
 use Rattle.gathering.specs.Claiming.{claims, held, claimFits, ClaimsLine}
 use Rattle.gathering.proofs.Puts.{put-length, put-off, put-at}
 use Rattle.gathering.proofs.Helds.{held-length, held-off, held-at}
-use Rattle.gathering.proofs.Calls.{scatter-done}
 use Rattle.gathering.proofs.Claimings.{claim-fits}
 
 -- g′ is g with F x y at each pixel (x, y) of line k
@@ -88,43 +84,28 @@ module _ (sh : Shape) (d : Direction) (ok : Accepted sh d) (k : ℤ) where
         (put-at op ps vs g (line-once sh d ok k) j (omega (arith, at-line .0, length-map (pixels sh d k) (place sh))) (omega (arith, at-line .0))
         (rw (at-line .1) (inside (length g) x y fits h l))))
 
-    -- the best values stand in a frame without gaps
     pub held-line : (n : ℕ) (best : List ℕ)
-        → LineSet sh d k
-        (λ (x y : ℕ). claims (getD best (place (gapless sh) (at x y)) 0) n (getD vs (indexIn (at x y) (pixels sh d k)) 0) (getD g (place sh (at x y)) 0))
-        g (held n (map (place (gapless sh)) (pixels sh d k)) (map (place sh) (pixels sh d k)) vs best g)
+        → LineSet sh d k (λ (x y : ℕ). claims (getD best (place sh (at x y)) 0) n (getD vs (indexIn (at x y) (pixels sh d k)) 0) (getD g (place sh (at x y)) 0))
+        g (held n (map (place sh) (pixels sh d k)) vs best g)
     held-line n best =
-        let cs = map (place (gapless sh)) (pixels sh d k) in
         let ps = map (place sh) (pixels sh d k) in
-        line-set _ g (held n cs ps vs best g) (held-length n best cs ps vs g) (held-off n best cs ps vs g)
+        line-set _ g (held n ps vs best g) (held-length n best ps vs g) (held-off n best ps vs g)
         (λ x y h l e.
         let at-line = stands sh d k x y h l e in
-        let at-best = stands (gapless sh) d k x y h l e .1 in
         let j = indexIn (at x y) (pixels sh d k) in
-        let alike : length cs ≡ length ps = length-map (pixels sh d k) (place (gapless sh)) ∙ sym (length-map (pixels sh d k) (place sh)) in
-        subst (λ (i : ℕ). getD (held n cs ps vs best g) i 0 ≡ claims (getD best (place (gapless sh) (at x y)) 0) n (getD vs j 0) (getD g i 0)) (at-line .1)
-        (held-at n best cs ps vs g (line-once sh d ok k) alike j (omega (arith, at-line .0, length-map (pixels sh d k) (place sh))) (omega (arith, at-line .0))
-        (rw (at-line .1) (inside (length g) x y fits h l))
-        ∙ ap (λ (i : ℕ). claims (getD best i 0) n (getD vs j 0) (getD g (getD ps j 0) 0)) at-best))
+        subst (λ (i : ℕ). getD (held n ps vs best g) i 0 ≡ claims (getD best i 0) n (getD vs j 0) (getD g i 0)) (at-line .1)
+        (held-at n best ps vs g (line-once sh d ok k) j (omega (arith, at-line .0, length-map (pixels sh d k) (place sh))) (omega (arith, at-line .0))
+        (rw (at-line .1) (inside (length g) x y fits h l))))
 
--- ---- the calls
+-- ---- a claim that is made
 
-module _ (sh : Shape) (d : Direction) (ok : Accepted sh d) (k : ℤ) (there : noLine sh d k ≡ false) (vs g g′ : List ℕ) (fits : needed sh ≤ length g) (enough : length (pixels sh d k) ≤ length vs) where
-  pub raise-line : {a : Answer} → Raises vs sh d k g g′ a
-      → LineSet sh d k (λ (x y : ℕ). max (getD g (place sh (at x y)) 0) (getD vs (indexIn (at x y) (pixels sh d k)) 0)) g g′
-  raise-line {a} p =
-      let done = ap (λ (a : Answer). a .number) (p .answers ∙ scatter-done sh d k (length vs) (length g) ok there enough fits) in
-      subst (LineSet sh d k _ g) (sym (p .written ∙ after-done a (raised (map (place sh) (pixels sh d k)) vs g) g done)) (put-line sh d ok k vs g fits enough max)
-
-module _ (sh : Shape) (d : Direction) (ok : Accepted sh d) (k : ℤ) (n : ℕ) (vs best best′ g g′ : List ℕ) (whole : needed (gapless sh) ≤ length best) (fits : needed sh ≤ length g) (enough : length (pixels sh d k) ≤ length vs)
+module _ (sh : Shape) (d : Direction) (ok : Accepted sh d) (k : ℤ) (n : ℕ) (vs best best′ g g′ : List ℕ) (room : needed sh ≤ length best) (fits : needed sh ≤ length g) (enough : length (pixels sh d k) ≤ length vs)
     (p : ClaimsLine vs n sh d k best best′ g g′) where
   fitted : claimFits sh d k (length vs) (length best) (length g) ≡ true
-  fitted = claim-fits vs n sh d k best g ok enough whole fits
+  fitted = claim-fits vs n sh d k best g ok enough room fits
 
-  pub claim-raises : LineSet (gapless sh) d k (λ (x y : ℕ). max (getD best (place (gapless sh) (at x y)) 0) (getD vs (indexIn (at x y) (pixels sh d k)) 0)) best best′
-  claim-raises = subst (LineSet (gapless sh) d k _ best) (sym (rw fitted at (p .raises))) (put-line (gapless sh) d (gapless-accepted ok) k vs best whole enough max)
+  pub claim-raises : LineSet sh d k (λ (x y : ℕ). max (getD best (place sh (at x y)) 0) (getD vs (indexIn (at x y) (pixels sh d k)) 0)) best best′
+  claim-raises = subst (LineSet sh d k _ best) (sym (rw fitted at (p .raises))) (put-line sh d ok k vs best room enough max)
 
-  pub claim-names : LineSet sh d k
-      (λ (x y : ℕ). claims (getD best (place (gapless sh) (at x y)) 0) n (getD vs (indexIn (at x y) (pixels sh d k)) 0) (getD g (place sh (at x y)) 0))
-      g g′
+  pub claim-names : LineSet sh d k (λ (x y : ℕ). claims (getD best (place sh (at x y)) 0) n (getD vs (indexIn (at x y) (pixels sh d k)) 0) (getD g (place sh (at x y)) 0)) g g′
   claim-names = subst (LineSet sh d k _ g) (sym (rw fitted at (p .names))) (held-line sh d ok k vs g fits enough n best)

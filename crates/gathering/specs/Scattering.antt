@@ -1,12 +1,11 @@
--- The calls `scatter` and `raise`, the way back from gathering: which rules they check, and what they leave.
+-- The call `scatter`, the way back from gathering: which rules it checks, and what it leaves.
 --   put op cs vs f    f with, at each of the places cs in order, op of what stood there and the value of vs
 --   stored cs vs f    f with the values vs stored at the places cs, in order
---   raised cs vs f    f with the brighter of what stood there and the value
 -- Laws: gathering/proofs/Puts, PutLines.
 use mathlib.Core.Path.{_≡_}
 use mathlib.Core.Bool.{not}
 use mathlib.Core.List.{List, [], _∷_, map}
-use Prim.Native.Nat.{ℕ, max}
+use Prim.Native.Nat.{ℕ}
 use lib.Dec.{ltb}
 use lib.ListN.{length, getD, set}
 use lib.IntN.{ℤ}
@@ -26,9 +25,6 @@ put op (c ∷ cs) (v ∷ vs) f = put op cs vs (set f c (op (getD f c 0) v))
 abbrev pub stored : List ℕ → List ℕ → List ℕ → List ℕ
 stored cs vs f = put (λ (old new : ℕ). new) cs vs f
 
-abbrev pub raised : List ℕ → List ℕ → List ℕ → List ℕ
-raised cs vs f = put max cs vs f
-
 -- size values to line k of a frame of room bytes
 abbrev pub scatterRules : Shape → Direction → ℤ → ℕ → ℕ → List Rule
 scatterRules sh d k size room =
@@ -43,8 +39,3 @@ scatterRules sh d k size room =
 pub record Scatters (src : List ℕ) (sh : Shape) (d : Direction) (k : ℤ) (dst dst′ : List ℕ) (a : Answer) : Type 0 where
   pub answers : a ≡ answer (scatterRules sh d k (length src) (length dst)) (length (pixels sh d k))
   pub written : dst′ ≡ after a (stored (map (place sh) (pixels sh d k)) src dst) dst
-
--- the same, each pixel as bright as it was or brighter
-pub record Raises (src : List ℕ) (sh : Shape) (d : Direction) (k : ℤ) (dst dst′ : List ℕ) (a : Answer) : Type 0 where
-  pub answers : a ≡ answer (scatterRules sh d k (length src) (length dst)) (length (pixels sh d k))
-  pub written : dst′ ≡ after a (raised (map (place sh) (pixels sh d k)) src dst) dst

@@ -7,7 +7,7 @@ ghost use Prim.Native.Nat.{_+_, _-_, _*_, _<_};
 ghost use Rattle.frame.specs.Sweep.{shift, hit, cell, Sane};
 
 // The minor coordinate of line u's pixel at major coordinate i.
-pub(crate) fn minor_of(s: Sweep, u: usize, i: usize) -> usize
+fn minor_of(s: Sweep, u: usize, i: usize) -> usize
     requires { ⌜ Sane s × (i < s .majors) × (hit s u i ≡ true) ⌝ }
     ensures { λ j. ⌜ j ≡ u - shift s i ⌝ }
 {
@@ -15,7 +15,7 @@ pub(crate) fn minor_of(s: Sweep, u: usize, i: usize) -> usize
 }
 
 // The byte of the pixel with major coordinate i and minor coordinate j.
-pub(crate) fn byte_of(s: Sweep, i: usize, j: usize) -> usize
+fn byte_of(s: Sweep, i: usize, j: usize) -> usize
     requires { ⌜ Sane s × (i < s .majors) × (j < s .minors) ⌝ }
     ensures { λ n. ⌜ n ≡ i * s .pace + j * s .sidestep ⌝ }
 {

@@ -1,4 +1,4 @@
-// Lines of a frame of pixels: gathered, scattered, and put back combined with what stands there; and the lent row.
+// Lines of a frame of pixels: gathered, scattered, and claimed for a number; and the lent row.
 mod cells;
 mod claiming;
 mod gathering;
@@ -12,5 +12,4 @@ pub type Pixel = u8;
 pub use claiming::claim;
 pub use gathering::gather;
 pub use rows::row;
-pub use scattering::raise;
 pub use scattering::scatter;

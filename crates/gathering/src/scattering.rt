@@ -1,4 +1,4 @@
-// Putting values back to a line of a frame, the way back from gathering: as they are, or where they are brighter.
+// Putting values back to a line of a frame, the way back from gathering.
 use crate::Pixel;
 use crate::cells::cell_of;
 use crate::rules::refusal;
@@ -15,26 +15,12 @@ ghost use lib.ListN.{length};
 ghost use Rattle.lists.specs.Tables.{table};
 ghost use Rattle.frame.specs.Sweep.{cell, Sane, Reach};
 ghost use Rattle.frame.specs.Span.{Spans};
-ghost use Rattle.gathering.specs.Scattering.{put, Scatters, Raises};
-ghost use Rattle.gathering.specs.Steps.{combining, PutsBack};
-
-// What a pixel becomes: the value, or the brighter of the two.
-pub(crate) fn combined(old: Pixel, new: Pixel, raising: bool) -> Pixel
-    ensures { λ r. ⌜ r ≡ combining raising old new ⌝ }
-{
-    if !raising {
-        return new;
-    }
-    if new < old {
-        return old;
-    }
-    new
-}
+ghost use Rattle.gathering.specs.Scattering.{stored, Scatters};
 
 // The values at the front of src to the pixels of a line, which has them at the major coordinates of t.
-fn copy_in(src: &[Pixel], s: Sweep, t: Track, raising: bool, dst: &mut [Pixel])
+fn copy_in(src: &[Pixel], s: Sweep, t: Track, dst: &mut [Pixel])
     requires { ⌜ Sane s × Reach s (length (now dst)) × Spans s (t .index) (t .from) (t .count) × (t .count ≤ length (now src)) ⌝ }
-    ensures { λ _. ⌜ now (dst .exit) ≡ put (combining raising) (table (λ (i : ℕ). cell s (t .index) (t .from + i)) (t .count)) (now (src .entry)) (now (dst .entry)) ⌝ }
+    ensures { λ _. ⌜ now (dst .exit) ≡ stored (table (λ (i : ℕ). cell s (t .index) (t .from + i)) (t .count)) (now (src .entry)) (now (dst .entry)) ⌝ }
 {
     let u = t.index;
     let from = t.from;
@@ -42,20 +28,14 @@ fn copy_in(src: &[Pixel], s: Sweep, t: Track, raising: bool, dst: &mut [Pixel])
     let mut i = 0;
     while i < count {
         let at = cell_of(s, u, from + i);
-        dst[at] = combined(dst[at], src[i], raising);
+        dst[at] = src[i];
         i += 1;
     }
 }
 
-fn put_back(
-    src: &[Pixel],
-    shape: Shape,
-    d: Direction,
-    line: i64,
-    raising: bool,
-    dst: &mut [Pixel],
-) -> Answer
-    ensures { λ a. ⌜ PutsBack (combining raising) (now (src .entry)) shape d line (now (dst .entry)) (now (dst .exit)) a ⌝ }
+// Writes the values at the front of src to the pixels of a line of the frame dst, in line order. Hands back their count. Rules 1, 2, 5, 6.
+pub fn scatter(src: &[Pixel], shape: Shape, d: Direction, line: i64, dst: &mut [Pixel]) -> Answer
+    ensures { λ a. ⌜ Scatters (now (src .entry)) shape d line (now (dst .entry)) (now (dst .exit)) a ⌝ }
 {
     let t = track_of(shape, d, line);
     let n = t.count;
@@ -63,21 +43,6 @@ fn put_back(
     if a.number != 0 {
         return a;
     }
-    copy_in(src, sweep_of(shape, d), t, raising, dst);
+    copy_in(src, sweep_of(shape, d), t, dst);
     a
-}
-
-// Writes the values at the front of src to the pixels of a line of the frame dst, in line order. Hands back their count. Rules 1, 2, 5, 6.
-pub fn scatter(src: &[Pixel], shape: Shape, d: Direction, line: i64, dst: &mut [Pixel]) -> Answer
-    ensures { λ a. ⌜ Scatters (now (src .entry)) shape d line (now (dst .entry)) (now (dst .exit)) a ⌝ }
-{
-    put_back(src, shape, d, line, false, dst)
-}
-
-// Each pixel of a line of the frame dst becomes the brighter of itself and its value: those at the front of `values`, in line order. Hands back their
-// count. Rules 1, 2, 5, 6.
-pub fn raise(values: &[Pixel], shape: Shape, d: Direction, line: i64, dst: &mut [Pixel]) -> Answer
-    ensures { λ a. ⌜ Raises (now (values .entry)) shape d line (now (dst .entry)) (now (dst .exit)) a ⌝ }
-{
-    put_back(values, shape, d, line, true, dst)
 }

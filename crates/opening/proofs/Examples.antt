@@ -18,7 +18,6 @@ use Rattle.opening.specs.Pixels as pixels
 use Rattle.opening.specs.Pixels.{openedPixel, highestAt, directionAt}
 use Rattle.opening.specs.Frames.{openFrameRules}
 use Rattle.opening.specs.Sixteen.{highestRules}
-use Rattle.opening.specs.Directions.{directionRules}
 
 abbrev small : Shape
 small = shape 3 3 4
@@ -53,14 +52,16 @@ pub lowest-number : picture (directionAt strand small 3) ≡ 3 ∷ 0 ∷ 0 ∷ 0
 unfolding tables.each extremes.least extremes.greatest windows.opened measures.firstFrom lines.r lines.indexIn pixels.openedPixel pixels.firstGreatest
 lowest-number = refl
 
--- 11 bytes of frame and 24 of scratch are enough; the direction frame needs 9 more
+-- 11 bytes of frame and 24 of scratch are enough
 pub answers :
     (answer (openFrameRules small along 3 11 11 24) 0 ≡ done 0)
     × (answer (openFrameRules small (dir (pos 0) (pos 0)) 3 11 11 24) 0 ≡ refusal 2 0)
     × (answer (openFrameRules small along 0 11 11 24) 0 ≡ refusal 3 0)
     × (answer (openFrameRules small along 3 10 11 24) 0 ≡ refusal 5 11)
     × (answer (openFrameRules small along 3 11 10 24) 0 ≡ refusal 6 11)
-    × (answer (highestRules small 3 11 11 23) 0 ≡ refusal 7 24)
-    × (answer (directionRules small 3 11 11 32) 0 ≡ refusal 7 33)
-    × (answer (directionRules (shape 3 3 2) 3 11 11 33) 0 ≡ refusal 1 0)
-answers = (refl, refl, refl, refl, refl, refl, refl, refl)
+    × (answer (highestRules small 3 11 11 11 24) 0 ≡ done 0)
+    × (answer (highestRules small 3 11 10 11 24) 0 ≡ refusal 6 11)
+    × (answer (highestRules small 3 11 11 10 24) 0 ≡ refusal 6 11)
+    × (answer (highestRules small 3 11 11 11 23) 0 ≡ refusal 7 24)
+    × (answer (highestRules (shape 3 3 2) 3 11 11 11 24) 0 ≡ refusal 1 0)
+answers = (refl, refl, refl, refl, refl, refl, refl, refl, refl, refl)

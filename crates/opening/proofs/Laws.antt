@@ -1,5 +1,5 @@
--- One input allows one outcome of each call: its answer, and the destination after it. What scratch holds after a done call is the exception.
---   opens-once, highest-once, directions-once, host-once
+-- One input allows one outcome of each call: its answer, and its destinations after it. What scratch holds after a done call is the exception.
+--   opens-once, highest-once, host-once
 -- Assumes nothing.
 use mathlib.Core.Path.{_≡_, refl, sym, ap, _∙_}
 use mathlib.Core.Bool.{true}
@@ -15,9 +15,8 @@ use Rattle.frame.specs.Painted.{Painted}
 use Rattle.frame.proofs.Paintings.{painted-once}
 use Rattle.opening.specs.Frames.{OpensFrame}
 use Rattle.opening.specs.Sixteen.{FindsHighest}
-use Rattle.opening.specs.Directions.{FindsDirections}
 use Rattle.opening.specs.Host.{HostOpens}
-use Rattle.opening.proofs.Calls.{open-ready, highest-ready, directions-ready}
+use Rattle.opening.proofs.Calls.{open-ready, highest-ready}
 
 -- a call with the number n paints its destination where n is 0, and else leaves it as it was
 settled : {sh : Shape} {G : ℕ → ℕ → ℕ} {g g₁ g₂ : List ℕ} (n : ℕ) → (n ≡ 0 → isFrame sh ≡ true) → (n ≡ 0 → Painted sh G g g₁) → (n ≡ 0 → Painted sh G g g₂)
@@ -30,22 +29,18 @@ module _ {f : List ℕ} {sh : Shape} {L : ℕ} {g g₁ g₂ t t₁ t₂ : List �
   opens-once {d} {a₁} {a₂} p q =
       let e : a₁ ≡ a₂ = p .answers ∙ sym (q .answers) in
       let n : a₁ .number ≡ a₂ .number = ap (λ (a : Answer). a .number) e in
-      let framed : a₁ .number ≡ 0 → isFrame sh ≡ true = λ z. open-ready sh L (length f) (length g) (length t) d (p .answers) z .ok .frame in
+      let framed : a₁ .number ≡ 0 → isFrame sh ≡ true = λ z. open-ready sh L (length f) (length g) d (length t) (p .answers) z .ok .frame in
       (e, settled (a₁ .number) framed (p .done) (λ z. q .done (sym n ∙ z)) (λ r. p .refused r .0) (λ r. q .refused (λ z. r (n ∙ z)) .0))
 
-  pub highest-once : {a₁ a₂ : Answer} → FindsHighest f sh L g g₁ t t₁ a₁ → FindsHighest f sh L g g₂ t t₂ a₂ → (a₁ ≡ a₂) × (g₁ ≡ g₂)
-  highest-once {a₁} {a₂} p q =
+  pub highest-once : {h h₁ h₂ : List ℕ} {a₁ a₂ : Answer} → FindsHighest f sh L g g₁ h h₁ t t₁ a₁ → FindsHighest f sh L g g₂ h h₂ t t₂ a₂ → (a₁ ≡ a₂) × (g₁ ≡ g₂) × (h₁ ≡ h₂)
+  highest-once {h} {h₁} {h₂} {a₁} {a₂} p q =
       let e : a₁ ≡ a₂ = p .answers ∙ sym (q .answers) in
       let n : a₁ .number ≡ a₂ .number = ap (λ (a : Answer). a .number) e in
-      let framed : a₁ .number ≡ 0 → isFrame sh ≡ true = λ z. highest-ready sh L (length f) (length g) (length t) (p .answers) z .ok .frame in
-      (e, settled (a₁ .number) framed (p .done) (λ z. q .done (sym n ∙ z)) (λ r. p .refused r .0) (λ r. q .refused (λ z. r (n ∙ z)) .0))
-
-  pub directions-once : {a₁ a₂ : Answer} → FindsDirections f sh L g g₁ t t₁ a₁ → FindsDirections f sh L g g₂ t t₂ a₂ → (a₁ ≡ a₂) × (g₁ ≡ g₂)
-  directions-once {a₁} {a₂} p q =
-      let e : a₁ ≡ a₂ = p .answers ∙ sym (q .answers) in
-      let n : a₁ .number ≡ a₂ .number = ap (λ (a : Answer). a .number) e in
-      let framed : a₁ .number ≡ 0 → isFrame sh ≡ true = λ z. directions-ready sh L (length f) (length g) (length t) (p .answers) z .0 .ok .frame in
-      (e, settled (a₁ .number) framed (p .done) (λ z. q .done (sym n ∙ z)) (λ r. p .refused r .0) (λ r. q .refused (λ z. r (n ∙ z)) .0))
+      let framed : a₁ .number ≡ 0 → isFrame sh ≡ true = λ z. highest-ready sh L (length f) (length g) (length h) (length t) (p .answers) z .ok .frame in (
+        e,
+        settled (a₁ .number) framed (p .brightness) (λ z. q .brightness (sym n ∙ z)) (λ r. p .refused r .0) (λ r. q .refused (λ z. r (n ∙ z)) .0),
+        settled (a₁ .number) framed (p .directions) (λ z. q .directions (sym n ∙ z)) (λ r. p .refused r .1) (λ r. q .refused (λ z. r (n ∙ z)) .1),
+      )
 
   pub host-once : {d : Direction} {n₁ n₂ : ℕ} → HostOpens f sh d L g g₁ t t₁ n₁ → HostOpens f sh d L g g₂ t t₂ n₂ → (n₁ ≡ n₂) × (g₁ ≡ g₂)
   host-once p q =

@@ -1,7 +1,6 @@
 -- The laws of opening/specs.
 --   Bands       a frame treated row by row
 --   Lines       a frame treated line by line
---   Claimings   rows that claim pixels
 --   Along       along, a line is a row
 --   Inplace     a frame copied, and opened where it stands
 --   Leaders     the greatest of some numbers, and the first that reaches it, one number more
@@ -10,7 +9,6 @@
 --   Examples    a frame with a strand, written out
 pub mod Bands
 pub mod Lines
-pub mod Claimings
 pub mod Along
 pub mod Inplace
 pub mod Leaders

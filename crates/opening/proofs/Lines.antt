@@ -3,14 +3,13 @@
 --   line-there, line-back         there is a line of each index; its number, as it comes back from the machine
 --   LinesSet                      the pixels of the first lines are set, each from what stood there: lines-none, lines-more, lines-all
 --   line-room, line-opened, line-value       a line gathered and opened, and the value that it has for one of its pixels
---   lines-raised                  one line more, put back by `raise`
---   LinesClaimed                  the first lines have claimed pixels: lines-claimed, one more, put back by `claim`; all-claimed
+--   LinesClaimed                  the first lines have claimed pixels: lines-claimed, one more; all-claimed
 -- Assumes nothing.
 use mathlib.Core.Path.{_≡_, refl, sym, ap, ap₂, _∙_, subst}
 use mathlib.Core.Bool.{false}
 use mathlib.Core.List.{List, _++_, List·Memᴰ}
 use mathlib.Core.Logic.{⊎-elim}
-use Prim.Native.Nat.{ℕ, _+_, _*_, _≤_, _<_, max}
+use Prim.Native.Nat.{ℕ, _+_, _≤_, _<_, max}
 use native.Mathlib.Nat.{eq-or-lt-of-le}
 use native.Mathlib.Omega.{arith}
 use lib.ListN.{length, getD, take, drop, length-append, length-map, List·getD-append}
@@ -31,20 +30,19 @@ use Rattle.line.proofs.Windows.{opened-length}
 use Rattle.frame.specs.declared.direction.Direction.{Direction}
 use Rattle.frame.specs.declared.lines.Lines.{Lines}
 use Rattle.frame.specs.declared.shape.Shape.{Shape}
-use Rattle.frame.specs.Shape.{needed, gapless}
+use Rattle.frame.specs.Shape.{needed}
 use Rattle.frame.specs.Lines.{Pixel, at, lineOf, lineRead, pixels, noLine, place, indexIn, firstLine, lineCount, linesOf}
 use Rattle.frame.specs.Painted.{Gap, Painted}
 use Rattle.frame.specs.Sweep.{sweepOf, low, Accepted}
 use Rattle.frame.proofs.Numbers.{sub-inj}
-use Rattle.frame.proofs.Shapes.{framed, gapless-accepted}
+use Rattle.frame.proofs.Shapes.{framed}
 use Rattle.frame.proofs.Pixels.{on-its-line, empty-not, number, pixels-most, line-among, among-line}
 use Rattle.frame.proofs.Firsts.{lines-accepted, number-is, number-back}
 use Rattle.frame.proofs.Spots.{index-in}
 use Rattle.gathering.specs.Gathering.{Gathers}
-use Rattle.gathering.specs.Scattering.{Raises}
 use Rattle.gathering.specs.Claiming.{claims, ClaimsLine}
 use Rattle.gathering.proofs.Calls.{gather-done}
-use Rattle.gathering.proofs.PutLines.{LineSet, raise-line, claim-raises, claim-names}
+use Rattle.gathering.proofs.PutLines.{LineSet, claim-raises, claim-names}
 use Rattle.opening.specs.Pixels as opening
 use Rattle.opening.specs.Pixels.{openedPixel}
 use Rattle.opening.specs.Steps.{LineOpened, FrameClaimed}
@@ -147,32 +145,24 @@ module _ {f : List ℕ} {sh : Shape} {d : Direction} {L : ℕ} {k : ℤ} {v : Li
       o .is (indexIn (at x y) (pixels sh d k)) (index-in (at x y) (pixels sh d k) member .0)
       ∙ sym (ap (λ (z : ℤ). getD (opened (lineRead f sh d z) L) (indexIn (at x y) (pixels sh d z)) 0) e)
 
-module _ {f : List ℕ} {sh : Shape} {d : Direction} {L n : ℕ} {v a b : List ℕ} (ok : Accepted sh d) (here : n < lineCount sh d) (fits : needed sh ≤ length a)
-    (o : LineOpened f sh d L (lineNo sh d n) v) where
-  pub lines-raised : {g : List ℕ} {z : Answer} → LinesSet sh d n (λ (x y old : ℕ). max old (openedPixel f sh d L x y)) g a → Raises v sh d (lineNo sh d n) a b z
-      → LinesSet sh d (n + 1) (λ (x y old : ℕ). max old (openedPixel f sh d L x y)) g b
-  lines-raised p r =
-      lines-more p (raise-line sh d ok (lineNo sh d n) (line-there sh d ok n here) v a b fits (o .room) r)
-      (λ x y h l e. ap (max (getD a (place sh (at x y)) 0)) (line-value o x y h l e))
+-- the first n lines have claimed pixels for a number, from the best so far
+pub record LinesClaimed (f : List ℕ) (sh : Shape) (d : Direction) (L number n : ℕ) (g g′ h h′ : List ℕ) : Type 0 where
+  pub raised : LinesSet sh d n (λ (x y old : ℕ). max old (openedPixel f sh d L x y)) g g′
+  pub holders : LinesSet sh d n (λ (x y old : ℕ). claims (getD g (place sh (at x y)) 0) number (openedPixel f sh d L x y) old) h h′
 
--- the first n lines have claimed pixels for a number, from the best values `best`
-pub record LinesClaimed (f : List ℕ) (sh : Shape) (d : Direction) (L number n : ℕ) (best best′ g g′ : List ℕ) : Type 0 where
-  pub holders : LinesSet sh d n (λ (x y old : ℕ). claims (getD best (place (gapless sh) (at x y)) 0) number (openedPixel f sh d L x y) old) g g′
-  pub raised : LinesSet (gapless sh) d n (λ (x y old : ℕ). max old (openedPixel f sh d L x y)) best best′
-
-module _ {f : List ℕ} {sh : Shape} {d : Direction} {L number n : ℕ} {best best₁ g a : List ℕ} (ok : Accepted sh d) (p : LinesClaimed f sh d L number n best best₁ g a) where
-  pub lines-claimed : {v best₂ b : List ℕ} → n < lineCount sh d → needed (gapless sh) ≤ length best₁ → needed sh ≤ length a → LineOpened f sh d L (lineNo sh d n) v
-      → ClaimsLine v number sh d (lineNo sh d n) best₁ best₂ a b → LinesClaimed f sh d L number (n + 1) best best₂ g b
-  lines-claimed {v} {best₂} {b} here room fits o c =
+module _ {f : List ℕ} {sh : Shape} {d : Direction} {L number n : ℕ} {g a h b : List ℕ} (ok : Accepted sh d) (p : LinesClaimed f sh d L number n g a h b) where
+  pub lines-claimed : {v a′ b′ : List ℕ} → n < lineCount sh d → needed sh ≤ length a → needed sh ≤ length b → LineOpened f sh d L (lineNo sh d n) v
+      → ClaimsLine v number sh d (lineNo sh d n) a a′ b b′ → LinesClaimed f sh d L number (n + 1) g a′ h b′
+  lines-claimed {v} {a′} {b′} here room fits o c =
       record {
-        holders =
-            lines-more (p .holders) (claim-names sh d ok (lineNo sh d n) number v best₁ best₂ a b room fits (o .room) c)
-            (λ x y h l e.
-            ap₂ (λ (m w : ℕ). claims m number w (getD a (place sh (at x y)) 0)) (p .raised .off x y n h l e (omega arith)) (line-value o x y h l e));
         raised =
-            lines-more (p .raised) (claim-raises sh d ok (lineNo sh d n) number v best₁ best₂ a b room fits (o .room) c)
-            (λ x y h l e. ap (max (getD best₁ (place (gapless sh) (at x y)) 0)) (line-value o x y h l e));
+            lines-more (p .raised) (claim-raises sh d ok (lineNo sh d n) number v a a′ b b′ room fits (o .room) c)
+            (λ x y h l e. ap (max (getD a (place sh (at x y)) 0)) (line-value o x y h l e));
+        holders =
+            lines-more (p .holders) (claim-names sh d ok (lineNo sh d n) number v a a′ b b′ room fits (o .room) c)
+            (λ x y h l e.
+            ap₂ (λ (m w : ℕ). claims m number w (getD b (place sh (at x y)) 0)) (p .raised .off x y n h l e (omega arith)) (line-value o x y h l e));
       }
 
-  pub all-claimed : n ≡ lineCount sh d → FrameClaimed sh (openedPixel f sh d L) number best best₁ g a
-  all-claimed all = record { holders = lines-all ok (p .holders) all; raised = lines-all (gapless-accepted ok) (p .raised) all }
+  pub all-claimed : n ≡ lineCount sh d → FrameClaimed sh (openedPixel f sh d L) number g a h b
+  all-claimed all = record { raised = lines-all ok (p .raised) all; holders = lines-all ok (p .holders) all }

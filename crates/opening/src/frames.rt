@@ -57,7 +57,7 @@ pub fn open_frame(
 ) -> Answer
     ensures { λ a. ⌜ OpensFrame (now (src .entry)) shape d length (now (dst .entry)) (now (dst .exit)) (now (scratch .entry)) (now (scratch .exit)) a ⌝ }
 {
-    let a = refusal(shape, d, length, src.len(), dst.len(), scratch.len(), 0);
+    let a = refusal(shape, d, length, src.len(), dst.len(), scratch.len());
     if a.number != 0 {
         return a;
     }

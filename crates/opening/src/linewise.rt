@@ -1,4 +1,4 @@
-// A frame, line by line: with the least scratch, a line is gathered, opened where it stands, and put back combined with what the destination has.
+// A frame, line by line: with the least scratch, a line is gathered and opened where it stands, in an array of its own.
 use crate::Pixel;
 use frame::Direction;
 use frame::Shape;

@@ -1,56 +1,72 @@
-// The highest opening over the sixteen numbered directions.
+// The highest opening over the sixteen numbered directions, and the number of the direction that gives it.
 use crate::Pixel;
+use crate::claiming::claim_by;
 use crate::lent::refusal;
-use crate::raising::raise_by;
+use crate::rowwise::blacken;
 use crate::rowwise::open_rows;
 use answer::Answer;
 use frame::Direction;
 use frame::Shape;
+ghost use mathlib.Core.Path.{_≡_};
+ghost use Prim.Native.Nat.{min};
 ghost use lib.ListN;
 ghost use Rattle.frame.specs.Direction.{along};
 ghost use Rattle.frame.specs.Painted.{Painted};
-ghost use Rattle.opening.specs.Pixels.{highestAt};
+ghost use Rattle.opening.specs.Pixels.{highestAt, directionAt};
 ghost use Rattle.opening.specs.Sixteen.{FindsHighest};
 ghost use Rattle.opening.specs.Steps.{Ready};
 
-// Direction 0 is along: its rows come first, so that dst needs no clearing, and the other directions raise them.
-fn highest_into(src: &[Pixel], shape: Shape, length: usize, dst: &mut [Pixel], scratch: &mut [u8])
-    requires { ⌜ Ready shape along length (lib.ListN.length (now src)) (lib.ListN.length (now dst)) (lib.ListN.length (now scratch)) ⌝ }
-    ensures { λ _. ⌜ Painted shape (highestAt (now (src .entry)) shape length) (now (dst .entry)) (now (dst .exit)) ⌝ }
+// Direction 0 is along: it holds every pixel at first, with its rows as the best, and the others claim pixels in their order.
+fn highest_into(
+    src: &[Pixel],
+    shape: Shape,
+    length: usize,
+    dst: &mut [Pixel],
+    directions: &mut [u8],
+    scratch: &mut [u8],
+)
+    requires { ⌜ Ready shape along length (lib.ListN.length (now src)) (min (lib.ListN.length (now dst)) (lib.ListN.length (now directions))) ⌝ }
+    ensures { λ _. ⌜ Painted shape (highestAt (now (src .entry)) shape length) (now (dst .entry)) (now (dst .exit)) × Painted shape (directionAt (now (src .entry)) shape length) (now (directions .entry)) (now (directions .exit)) ⌝ }
 {
     let stride = shape.stride;
     open_rows(src, shape, length, stride, dst);
+    blacken(shape, directions);
     let mut n = 1;
     while n < 16 {
         let d = Direction::numbered(n);
-        raise_by(src, shape, d, d.pixels_for(length), dst, scratch);
+        let pixels = d.pixels_for(length);
+        claim_by(src, n as u8, shape, d, pixels, dst, directions, scratch);
         n += 1;
     }
 }
 
-// The greatest, at each pixel of the frame src, of its openings in the sixteen numbered directions, with windows as long as `length` pixels along a row, into the frame dst.
-// Hands back 0. Rules 1, 3, 5, 6, 7. Where scratch has width·height bytes, which rule 7 does not ask for, it is many times as fast.
+// The lesser of two sizes.
+fn lesser(a: usize, b: usize) -> usize
+    ensures { λ n. ⌜ n ≡ min a b ⌝ }
+{
+    if a < b { a } else { b }
+}
+
+// At each pixel of the frame src, into the frame dst the greatest of its openings in the sixteen numbered directions, with windows as long as `length` pixels
+// along a row, and into the frame `directions` the number of the direction, the lowest of them, that reaches it. Hands back 0. Rules 1, 3, 5, 6 of either, 7.
+// Where scratch has width·height bytes, which rule 7 does not ask for, it is many times as fast.
 pub fn highest(
     src: &[Pixel],
     shape: Shape,
     length: usize,
     dst: &mut [Pixel],
+    directions: &mut [u8],
     scratch: &mut [u8],
 ) -> Answer
-    ensures { λ a. ⌜ FindsHighest (now (src .entry)) shape length (now (dst .entry)) (now (dst .exit)) (now (scratch .entry)) (now (scratch .exit)) a ⌝ }
+    ensures { λ a. ⌜ FindsHighest (now (src .entry)) shape length (now (dst .entry)) (now (dst .exit)) (now (directions .entry)) (now (directions .exit)) (now (scratch .entry)) (now (scratch .exit)) a ⌝ }
 {
-    let a = refusal(
-        shape,
-        Direction::Along,
-        length,
-        src.len(),
-        dst.len(),
-        scratch.len(),
-        0,
-    );
+    // both need as much, so the shorter one speaks for both
+    let room = lesser(dst.len(), directions.len());
+    let along = Direction::Along;
+    let a = refusal(shape, along, length, src.len(), room, scratch.len());
     if a.number != 0 {
         return a;
     }
-    highest_into(src, shape, length, dst, scratch);
+    highest_into(src, shape, length, dst, directions, scratch);
     a
 }

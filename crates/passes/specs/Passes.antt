@@ -89,9 +89,10 @@ pub record MeetsBy (darker : Bool) (src : List ℕ) (from n at : ℕ) (before af
   pub done : from + n ≤ length src → at + n ≤ length before → Filled before after at (at + n) (λ (x : ℕ). op darker (getD before x 0) (straight from src (x - at)))
   pub none : (from + n ≤ length src → at + n ≤ length before → ⊥) → after ≡ before
 
--- new claims for the number n, from the best so far
-pub record Claims (new : List ℕ) (n : ℕ) (best best' holders holders' : List ℕ) : Type 0 where
-  pub raised : length new ≤ length best → length new ≤ length holders → Filled best best' 0 (length new) (λ (k : ℕ). max (getD best k 0) (getD new k 0))
-  pub held : length new ≤ length best → length new ≤ length holders
-      → Filled holders holders' 0 (length new) (λ (k : ℕ). cond (ltb (getD best k 0) (getD new k 0)) n (getD holders k 0))
-  pub none : (length new ≤ length best → length new ≤ length holders → ⊥) → (best' ≡ best) × (holders' ≡ holders)
+-- the n pixels of new from `from` on claim for a number, from the best so far; these and their holders stand from `at` on
+pub record Claims (new : List ℕ) (from n number at : ℕ) (best best' holders holders' : List ℕ) : Type 0 where
+  pub raised : from + n ≤ length new → at + n ≤ length best → at + n ≤ length holders
+      → Filled best best' at (at + n) (λ (x : ℕ). max (getD best x 0) (straight from new (x - at)))
+  pub held : from + n ≤ length new → at + n ≤ length best → at + n ≤ length holders
+      → Filled holders holders' at (at + n) (λ (x : ℕ). cond (ltb (getD best x 0) (straight from new (x - at))) number (getD holders x 0))
+  pub none : (from + n ≤ length new → at + n ≤ length best → at + n ≤ length holders → ⊥) → (best' ≡ best) × (holders' ≡ holders)

@@ -40,29 +40,49 @@ fn claimed(best: Pixel, new: Pixel, number: u8, holder: u8) -> u8
     if best < new { number } else { holder }
 }
 
-fn claim_front(new: &[Pixel], number: u8, best: &mut [Pixel], holders: &mut [u8])
-    requires { ⌜ (length (now new) ≤ length (now best)) × (length (now new) ≤ length (now holders)) ⌝ }
-    ensures { λ _. ⌜ Filled (now (best .entry)) (now (best .exit)) 0 (length (now (new .entry))) (λ (k : ℕ). max (getD (now (best .entry)) k 0) (getD (now (new .entry)) k 0)) × Filled (now (holders .entry)) (now (holders .exit)) 0 (length (now (new .entry))) (λ (k : ℕ). cond (ltb (getD (now (best .entry)) k 0) (getD (now (new .entry)) k 0)) number (getD (now (holders .entry)) k 0)) ⌝ }
+fn claim_row(
+    new: &[Pixel],
+    from: usize,
+    n: usize,
+    number: u8,
+    best: &mut [Pixel],
+    holders: &mut [u8],
+    at: usize,
+)
+    requires { ⌜ (from + n ≤ length (now new)) × (at + n ≤ length (now best)) × (at + n ≤ length (now holders)) ⌝ }
+    ensures { λ _. ⌜ Filled (now (best .entry)) (now (best .exit)) at (at + n) (λ (x : ℕ). max (getD (now (best .entry)) x 0) (straight from (now (new .entry)) (x - at))) × Filled (now (holders .entry)) (now (holders .exit)) at (at + n) (λ (x : ℕ). cond (ltb (getD (now (best .entry)) x 0) (straight from (now (new .entry)) (x - at))) number (getD (now (holders .entry)) x 0)) ⌝ }
 {
     let mut i = 0;
-    while i < new.len() {
-        let old = best[i];
-        holders[i] = claimed(old, new[i], number, holders[i]);
-        best[i] = of_two(old, new[i], false);
+    while i < n {
+        let old = best[at + i];
+        let value = new[from + i];
+        holders[at + i] = claimed(old, value, number, holders[at + i]);
+        best[at + i] = of_two(old, value, false);
         i += 1;
     }
 }
 
-// Where a pixel of `new` is above the best so far, it takes its place, and the pixel's holder becomes the number: a tie leaves it to its holder. Where `best` or
-// `holders` has fewer pixels, nothing changes.
-pub fn claim(new: &[Pixel], number: u8, best: &mut [Pixel], holders: &mut [u8])
-    ensures { λ _. ⌜ Claims (now (new .entry)) number (now (best .entry)) (now (best .exit)) (now (holders .entry)) (now (holders .exit)) ⌝ }
+// Each of the n pixels of `new` from `from` on against the best so far, those of `best` from `at` on: where it is above, it takes its place, and the pixel's
+// holder becomes the number; a tie leaves it to its holder. Where they are not all there, nothing changes.
+pub fn claim(
+    new: &[Pixel],
+    from: usize,
+    n: usize,
+    number: u8,
+    best: &mut [Pixel],
+    holders: &mut [u8],
+    at: usize,
+)
+    ensures { λ _. ⌜ Claims (now (new .entry)) from n number at (now (best .entry)) (now (best .exit)) (now (holders .entry)) (now (holders .exit)) ⌝ }
 {
-    if best.len() < new.len() {
+    if !is_within(new.len(), from, n) {
         return;
     }
-    if holders.len() < new.len() {
+    if !is_within(best.len(), at, n) {
         return;
     }
-    claim_front(new, number, best, holders);
+    if !is_within(holders.len(), at, n) {
+        return;
+    }
+    claim_row(new, from, n, number, best, holders, at);
 }

@@ -37,6 +37,12 @@ once (inl p) (inl q) done₁ none₁ done₂ none₂ = filled-once (done₁ p q)
 once (inr p) q done₁ none₁ done₂ none₂ = none₁ (λ h k. p h) ∙ sym (none₂ (λ h k. p h))
 once (inl p) (inr q) done₁ none₁ done₂ none₂ = none₁ (λ h k. q k) ∙ sym (none₂ (λ h k. q k))
 
+-- with one condition more
+once-more : {P Q R : Type 0} {b b₁ b₂ : List ℕ} {lo hi : ℕ} {F : ℕ → ℕ} → P ⊎ (P → ⊥) → Q ⊎ (Q → ⊥) → R ⊎ (R → ⊥)
+    → (P → Q → R → Filled b b₁ lo hi F) → ((P → Q → R → ⊥) → b₁ ≡ b) → (P → Q → R → Filled b b₂ lo hi F) → ((P → Q → R → ⊥) → b₂ ≡ b) → b₁ ≡ b₂
+once-more (inl p) q r done₁ none₁ done₂ none₂ = once q r (done₁ p) (λ n. none₁ (λ h. n)) (done₂ p) (λ n. none₂ (λ h. n))
+once-more (inr p) q r done₁ none₁ done₂ none₂ = none₁ (λ h k l. p h) ∙ sym (none₂ (λ h k l. p h))
+
 lone : {P : Type 0} {b b₁ b₂ : List ℕ} {lo hi : ℕ} {F : ℕ → ℕ} → P ⊎ (P → ⊥) → (P → Filled b b₁ lo hi F) → ((P → ⊥) → b₁ ≡ b)
     → (P → Filled b b₂ lo hi F) → ((P → ⊥) → b₂ ≡ b) → b₁ ≡ b₂
 lone (inl fits) done₁ none₁ done₂ none₂ = filled-once (done₁ fits) (done₂ fits)
@@ -96,12 +102,14 @@ module _ {b b₁ b₂ : List ℕ} where
   pub copy-once : {f : List ℕ} {n : ℕ} → Copies f n b b₁ → Copies f n b b₂ → b₁ ≡ b₂
   copy-once {f} {n} p q = once (at-most n (length f)) (at-most n (length b)) (p .done) (p .none) (q .done) (q .none)
 
-  pub claim-once : {new : List ℕ} {number : ℕ} {h h₁ h₂ : List ℕ} → Claims new number b b₁ h h₁ → Claims new number b b₂ h h₂ → (b₁ ≡ b₂) × (h₁ ≡ h₂)
-  claim-once {new} {number} {h} p q =
-      let best = at-most (length new) (length b) in
-      let held = at-most (length new) (length h) in (
-        once best held (p .raised) (λ n. p .none n .0) (q .raised) (λ n. q .none n .0),
-        once best held (p .held) (λ n. p .none n .1) (q .held) (λ n. q .none n .1),
+  pub claim-once : {new : List ℕ} {from n number at : ℕ} {h h₁ h₂ : List ℕ} → Claims new from n number at b b₁ h h₁ → Claims new from n number at b b₂ h h₂
+      → (b₁ ≡ b₂) × (h₁ ≡ h₂)
+  claim-once {new} {from} {n} {at = at} {h} p q =
+      let there = at-most (from + n) (length new) in
+      let best = at-most (at + n) (length b) in
+      let held = at-most (at + n) (length h) in (
+        once-more there best held (p .raised) (λ r. p .none r .0) (q .raised) (λ r. q .none r .0),
+        once-more there best held (p .held) (λ r. p .none r .1) (q .held) (λ r. q .none r .1),
       )
 
 -- ---- a frame where it stands

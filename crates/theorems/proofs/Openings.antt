@@ -3,8 +3,9 @@
 --   erosion-rest, dilation-rest, opening-rest    what follows them is unchanged
 --   no-brighter                                  no pixel of an opened line is brighter than the pixel it came from
 --   frame-is                                     each pixel of an opened frame, on its own line; frame-lines: so each line is opened
---   opened-on                                    the same of the definition `openedPixel`, which the next two speak of
---   highest-is, direction-is                     each pixel of the highest over sixteen directions, and of the direction frame
+--   opened-on                                    the same of the definition `openedPixel`, which the next four speak of
+--   highest-is, direction-is                     each pixel of the two frames that `highest` leaves: the highest over sixteen directions, and its direction
+--   direction-reaches, direction-lowest          the two frames together: the opening in the direction stored is the brightness stored, and a lower number's is below it
 --   frame-no-brighter, highest-no-brighter       no pixel of an opened frame, nor of the highest opening, is brighter than the pixel it came from
 --   frame-gaps, highest-gaps, direction-gaps     bytes that are no pixel's never change
 --   row-is, row-none                             the lent row, bytes of the caller's slice; the empty part where there is no such row
@@ -46,7 +47,6 @@ use Rattle.gathering.proofs.LentRows.{row-from, row-length, row-pixel}
 use Rattle.opening.specs.Pixels.{openedPixel, inDirection}
 use Rattle.opening.specs.Frames.{OpensFrame}
 use Rattle.opening.specs.Sixteen.{FindsHighest}
-use Rattle.opening.specs.Directions.{FindsDirections}
 use Rattle.opening.proofs.Calls.{open-ready}
 use Rattle.theorems.specs.Equation.{Darkest, Dilates, Opens, OpenedOn, PartOf, Highest, Leads}
 use Rattle.theorems.proofs.Facts.{darkest-is, dilated-is, opened-is, opens-below, index-is, entry-in, entry-index, highest-of, leads-of}
@@ -159,35 +159,48 @@ module _ {f : List ℕ} {sh : Shape} {d : Direction} {L : ℕ} {g g′ t t′ : 
           let cs = pixels sh d k in
           let c : Pixel = getD cs j (at 0 0) in
           let on = its-line sh d k (c .x) (c .y) (entry-in cs j h) in
-          let ok = open-ready sh L (length f) (length g) (length t) d (p .answers) z .ok in
+          let ok = open-ready sh L (length f) (length g) d (length t) (p .answers) z .ok in
           map-at (λ (c : Pixel). getD g′ (place sh c) 0) cs j h
           ∙ p .done z .pixels (c .x) (c .y) (on .0) (on .1)
           ∙ ap (λ (k : ℤ). getD (opened (lineRead f sh d k) (pixelsFor d L)) (indexIn c (pixels sh d k)) 0) (on .2)
           ∙ ap (λ (i : ℕ). getD (opened (lineRead f sh d k) (pixelsFor d L)) i 0) (entry-index sh d ok k j h)
 
-module _ {f : List ℕ} {sh : Shape} {L : ℕ} {g g′ t t′ : List ℕ} {a : Answer} where
+-- g′ is the frame of the brightness, h′ that of the directions' numbers
+module _ {f : List ℕ} {sh : Shape} {L : ℕ} {g g′ h h′ t t′ : List ℕ} {a : Answer} (p : FindsHighest f sh L g g′ h h′ t t′ a) (z : a .number ≡ 0) where
   -- 'The highest opening takes, at each pixel, the greatest over the sixteen'
-  pub highest-is : FindsHighest f sh L g g′ t t′ a → a .number ≡ 0 → (x y : ℕ) → x < sh .width → y < sh .height
+  pub highest-is : (x y : ℕ) → x < sh .width → y < sh .height
       → Highest (λ (n : ℕ). openedPixel f sh (numberedOf n) (pixelsFor (numberedOf n) L) x y) (getD g′ (place sh (at x y)) 0)
-  highest-is p z x y h l = subst (Highest (inDirection f sh L x y)) (sym (p .done z .pixels x y h l)) (highest-of (inDirection f sh L x y))
-
-  pub highest-no-brighter : FindsHighest f sh L g g′ t t′ a → a .number ≡ 0 → (x y : ℕ) → x < sh .width → y < sh .height
-      → getD g′ (place sh (at x y)) 0 ≤ getD f (place sh (at x y)) 0
-  highest-no-brighter p z x y h l =
-      let top = highest-is p z x y h l .reached in
-      let d = numberedOf (top .0) in
-      omega (arith, top .2, on-below f sh d (pixelsFor d L) x y _ (opened-on f sh d (pixelsFor d L) x y (pixels-some d L) h l))
-
-  pub highest-gaps : FindsHighest f sh L g g′ t t′ a → a .number ≡ 0 → (i : ℕ) → Gap sh i → getD g′ i 0 ≡ getD g i 0
-  highest-gaps p z = p .done z .gaps
+  highest-is x y wide high = subst (Highest (inDirection f sh L x y)) (sym (p .brightness z .pixels x y wide high)) (highest-of (inDirection f sh L x y))
 
   -- 'the direction frame holds the lowest number that reaches it'
-  pub direction-is : FindsDirections f sh L g g′ t t′ a → a .number ≡ 0 → (x y : ℕ) → x < sh .width → y < sh .height
-      → Leads (λ (n : ℕ). openedPixel f sh (numberedOf n) (pixelsFor (numberedOf n) L) x y) (getD g′ (place sh (at x y)) 0)
-  direction-is p z x y h l = subst (Leads (inDirection f sh L x y)) (sym (p .done z .pixels x y h l)) (leads-of (inDirection f sh L x y))
+  pub direction-is : (x y : ℕ) → x < sh .width → y < sh .height
+      → Leads (λ (n : ℕ). openedPixel f sh (numberedOf n) (pixelsFor (numberedOf n) L) x y) (getD h′ (place sh (at x y)) 0)
+  direction-is x y wide high = subst (Leads (inDirection f sh L x y)) (sym (p .directions z .pixels x y wide high)) (leads-of (inDirection f sh L x y))
 
-  pub direction-gaps : FindsDirections f sh L g g′ t t′ a → a .number ≡ 0 → (i : ℕ) → Gap sh i → getD g′ i 0 ≡ getD g i 0
-  direction-gaps p z = p .done z .gaps
+  -- 'one call with two destinations': each pixel's brightness is that of the direction whose number is stored beside it
+  pub direction-reaches : (x y : ℕ) → x < sh .width → y < sh .height → inDirection f sh L x y (getD h′ (place sh (at x y)) 0) ≡ getD g′ (place sh (at x y)) 0
+  direction-reaches x y wide high =
+      let top = highest-is x y wide high in
+      let leader = direction-is x y wide high in
+      let best = top .reached in
+      omega (arith, best .2, leader .above (best .0) (best .1), top .above _ (leader .numbered))
+
+  -- 'the lowest number': in every direction with a lower one the pixel is darker
+  pub direction-lowest : (x y : ℕ) → x < sh .width → y < sh .height → (n : ℕ) → n < getD h′ (place sh (at x y)) 0
+      → inDirection f sh L x y n < getD g′ (place sh (at x y)) 0
+  direction-lowest x y wide high n lower = omega (arith, direction-reaches x y wide high, direction-is x y wide high .lowest n lower)
+
+  pub highest-no-brighter : (x y : ℕ) → x < sh .width → y < sh .height → getD g′ (place sh (at x y)) 0 ≤ getD f (place sh (at x y)) 0
+  highest-no-brighter x y wide high =
+      let top = highest-is x y wide high .reached in
+      let d = numberedOf (top .0) in
+      omega (arith, top .2, on-below f sh d (pixelsFor d L) x y _ (opened-on f sh d (pixelsFor d L) x y (pixels-some d L) wide high))
+
+  pub highest-gaps : (i : ℕ) → Gap sh i → getD g′ i 0 ≡ getD g i 0
+  highest-gaps = p .brightness z .gaps
+
+  pub direction-gaps : (i : ℕ) → Gap sh i → getD h′ i 0 ≡ getD h i 0
+  direction-gaps = p .directions z .gaps
 
 -- ---- the lent row
 

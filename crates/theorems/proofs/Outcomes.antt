@@ -1,13 +1,13 @@
 -- 'It is shown that one input allows one outcome only; scratch after a done call is the exception.' For each call: two outcomes that its contract allows
 -- of one input are the same. What scratch holds after a refusal is in Refusals: it is unchanged.
 --   erode-once, dilate-once, open-line-once
---   gather-once, scatter-once, raise-once, row-once
---   open-frame-once, highest-once, directions-once, host-once
+--   gather-once, scatter-once, row-once
+--   open-frame-once, host-once; highest-once: both destinations
 --   list-once, next-once, enclosers-once
 --   sums-of-line-once, sums-of-frame-once, rose-once
 --   sums-text-once, read-input-once, line-text-once, refusal-text-once
 -- The contract of every other call is an equation `answer ≡ definition`, which one value alone meets: `lines_of`, `line_number`, `sweep_of`, `track_of`,
--- `shift_at`, `numbered`, `turned`, `is_shallow`, `goes_down`, `is_direction`, `is_frame`, `bytes`, `scratch`, `gapless`, `begin`, `count`, `rose_refusal`,
+-- `shift_at`, `numbered`, `turned`, `is_shallow`, `goes_down`, `is_direction`, `is_frame`, `bytes`, `scratch`, `begin`, `count`, `rose_refusal`,
 -- `summarize`, `is_outside`, `growth`, `open_in_place`, `done`, `refused`, `unless`, `needing`. Engines has the calls that only other crates of the library make.
 -- Assumes nothing.
 use mathlib.Core.Path.{_≡_, sym, ap, _∙_}
@@ -28,11 +28,10 @@ use Rattle.frame.specs.declared.direction.Direction.{Direction}
 use Rattle.frame.specs.declared.shape.Shape.{Shape}
 use Rattle.frame.specs.Lines.{pixels, place, lineRead}
 use Rattle.gathering.specs.Gathering.{Gathers}
-use Rattle.gathering.specs.Scattering.{stored, raised, Scatters, Raises}
+use Rattle.gathering.specs.Scattering.{stored, Scatters}
 use Rattle.gathering.specs.Rows.{LendsRow}
 use Rattle.opening.specs.Frames.{OpensFrame}
 use Rattle.opening.specs.Sixteen.{FindsHighest}
-use Rattle.opening.specs.Directions.{FindsDirections}
 use Rattle.opening.specs.Host.{HostOpens}
 use Rattle.opening.proofs.Laws as opening
 use Rattle.bright.specs.declared.Nested.{Nested}
@@ -81,11 +80,6 @@ module _ {src : List ℕ} {sh : Shape} {d : Direction} {k : ℤ} {dst dst₁ dst
       let e : a₁ ≡ a₂ = p .answers ∙ sym (q .answers) in
       (e, alike (stored (map (place sh) (pixels sh d k)) src dst) dst e (p .written) (q .written))
 
-  pub raise-once : Raises src sh d k dst dst₁ a₁ → Raises src sh d k dst dst₂ a₂ → (a₁ ≡ a₂) × (dst₁ ≡ dst₂)
-  raise-once p q =
-      let e : a₁ ≡ a₂ = p .answers ∙ sym (q .answers) in
-      (e, alike (raised (map (place sh) (pixels sh d k)) src dst) dst e (p .written) (q .written))
-
 -- the lent part: the memory it stands in, where it begins there, and its bytes
 pub row-once : {src p₁ p₂ : RefT (List ℕ)} {sh : Shape} {y : ℕ} → LendsRow src sh y p₁ → LendsRow src sh y p₂
     → (p₁ .ptr .0 ≡ p₂ .ptr .0) × (p₁ .ptr .1 ≡ p₂ .ptr .1) × (p₁ .now ≡ p₂ .now)
@@ -95,14 +89,12 @@ module _ {f : List ℕ} {sh : Shape} {L : ℕ} {g g₁ g₂ t t₁ t₂ : List �
   pub open-frame-once : {d : Direction} {a₁ a₂ : Answer} → OpensFrame f sh d L g g₁ t t₁ a₁ → OpensFrame f sh d L g g₂ t t₂ a₂ → (a₁ ≡ a₂) × (g₁ ≡ g₂)
   open-frame-once = opening.opens-once
 
-  pub highest-once : {a₁ a₂ : Answer} → FindsHighest f sh L g g₁ t t₁ a₁ → FindsHighest f sh L g g₂ t t₂ a₂ → (a₁ ≡ a₂) × (g₁ ≡ g₂)
-  highest-once = opening.highest-once
-
-  pub directions-once : {a₁ a₂ : Answer} → FindsDirections f sh L g g₁ t t₁ a₁ → FindsDirections f sh L g g₂ t t₂ a₂ → (a₁ ≡ a₂) × (g₁ ≡ g₂)
-  directions-once = opening.directions-once
-
   pub host-once : {d : Direction} {n₁ n₂ : ℕ} → HostOpens f sh d L g g₁ t t₁ n₁ → HostOpens f sh d L g g₂ t t₂ n₂ → (n₁ ≡ n₂) × (g₁ ≡ g₂)
   host-once = opening.host-once
+
+pub highest-once : {f : List ℕ} {sh : Shape} {L : ℕ} {g g₁ g₂ h h₁ h₂ t t₁ t₂ : List ℕ} {a₁ a₂ : Answer} → FindsHighest f sh L g g₁ h h₁ t t₁ a₁
+    → FindsHighest f sh L g g₂ h h₂ t t₂ a₂ → (a₁ ≡ a₂) × (g₁ ≡ g₂) × (h₁ ≡ h₂)
+highest-once = opening.highest-once
 
 -- ---- stretches
 

@@ -1,7 +1,8 @@
 -- Demand 1, call by call, from the contract alone: done if and only if no rule is broken; else the first broken rule's answer, and every lent buffer as it was.
 --   erode-settled, dilate-settled, open-line-settled
---   gather-settled, scatter-settled, raise-settled
---   open-frame-settled, highest-settled, directions-settled, host-settled; host-splits: the host can split its number
+--   gather-settled, scatter-settled
+--   open-frame-settled, host-settled; host-splits: the host can split its number
+--   highest-settled; highest-short: the answer where either of its destinations is short; highest-exchanged: it does not tell which
 --   list-settled
 --   sums-of-line-settled, sums-of-frame-settled, rose-settled, summary-settled
 --   sums-text-settled, read-input-settled
@@ -9,28 +10,32 @@
 -- Assumes nothing.
 use mathlib.Core.Path.{_≡_, refl, sym, ap, ap₂, _∙_}
 use mathlib.Core.Bool.{Bool, true, false, cond}
+use mathlib.Core.Logic.{_⊎_, ⊎-elim}
 use mathlib.Core.List.{List, [], _∷_}
-use Prim.Native.Nat.{ℕ, zero, suc, _+_, _*_, _/_, _%_, _^_}
+use Prim.Native.Nat.{ℕ, zero, suc, _+_, _*_, _/_, _%_, _≤_, _<_, _^_, min}
 use native.Mathlib.Omega.{arith}
+use borrow.Author.Tests.{lt-ltb, le-ltb}
 use lib.ListN.{length}
 use lib.IntN.{ℤ}
 use Rattle.answer.specs.declared.Answer.{Answer}
+use Rattle.answer.specs.Limits.{longest}
 use Rattle.answer.specs.Rules.{Rule, refusal, answer, by-number}
-use Rattle.answer.proofs.Rules.{numbered, kept, done-kept, after-refused}
+use Rattle.answer.proofs.Rules.{numbered, kept, done-kept, after-refused, not-outside}
 use Rattle.line.specs.Windows.{erodedCount, dilatedCount}
 use Rattle.line.specs.Erosion.{erodeRules, ErodesLine}
 use Rattle.line.specs.Dilation.{dilateRules, DilatesLine}
 use Rattle.line.specs.Opening.{openRules, OpensLine}
 use Rattle.frame.specs.declared.direction.Direction.{Direction}
 use Rattle.frame.specs.declared.shape.Shape.{Shape}
+use Rattle.frame.specs.Direction.{along}
+use Rattle.frame.specs.Shape.{isFrame, needed}
 use Rattle.frame.specs.Lines.{pixels}
 use Rattle.gathering.specs.Gathering.{gatherRules, Gathers}
-use Rattle.gathering.specs.Scattering.{scatterRules, Scatters, Raises}
+use Rattle.gathering.specs.Scattering.{scatterRules, Scatters}
 use Rattle.opening.specs.Frames.{openFrameRules, OpensFrame}
 use Rattle.opening.specs.Sixteen.{highestRules, FindsHighest}
-use Rattle.opening.specs.Directions.{directionRules, FindsDirections}
 use Rattle.opening.specs.Host.{HostOpens}
-use Rattle.opening.proofs.Calls.{open-figure}
+use Rattle.opening.proofs.Calls.{highest-rules, open-figure}
 use Rattle.bright.specs.declared.Nested.{Nested}
 use Rattle.bright.specs.Stretches.{stretches}
 use Rattle.bright.specs.Listing.{listRules, ListsLine}
@@ -106,20 +111,10 @@ module _ {src : List ℕ} {sh : Shape} {d : Direction} {k : ℤ} {dst dst′ : L
   pub scatter-settled : Scatters src sh d k dst dst′ a → Settled (scatterRules sh d k (length src) (length dst)) (length (pixels sh d k)) a (dst′ ≡ dst)
   scatter-settled p = settled _ _ refl (p .answers) (λ r. p .written ∙ after-refused a _ dst r)
 
-  pub raise-settled : Raises src sh d k dst dst′ a → Settled (scatterRules sh d k (length src) (length dst)) (length (pixels sh d k)) a (dst′ ≡ dst)
-  raise-settled p = settled _ _ refl (p .answers) (λ r. p .written ∙ after-refused a _ dst r)
-
 module _ {f : List ℕ} {sh : Shape} {L : ℕ} {g g′ t t′ : List ℕ} where
   pub open-frame-settled : {d : Direction} {a : Answer} → OpensFrame f sh d L g g′ t t′ a
       → Settled (openFrameRules sh d L (length f) (length g) (length t)) 0 a ((g′ ≡ g) × (t′ ≡ t))
   open-frame-settled p = settled _ _ refl (p .answers) (p .refused)
-
-  pub highest-settled : {a : Answer} → FindsHighest f sh L g g′ t t′ a → Settled (highestRules sh L (length f) (length g) (length t)) 0 a ((g′ ≡ g) × (t′ ≡ t))
-  highest-settled p = settled _ _ refl (p .answers) (p .refused)
-
-  pub directions-settled : {a : Answer} → FindsDirections f sh L g g′ t t′ a
-      → Settled (directionRules sh L (length f) (length g) (length t)) 0 a ((g′ ≡ g) × (t′ ≡ t))
-  directions-settled p = settled _ _ refl (p .answers) (p .refused)
 
   -- 'one 64-bit number back: the refusal number times 2^32, plus the figure'
   pub host-settled : {d : Direction} {n : ℕ} (p : HostOpens f sh d L g g′ t t′ n)
@@ -132,6 +127,28 @@ module _ {f : List ℕ} {sh : Shape} {L : ℕ} {g g′ t t′ : List ℕ} where
       let small = ap (λ (a : Answer). a .figure) (p .opens .answers) in
       let below = open-figure sh L (length f) (length g) (length t) d in
       (omega (arith, p .gives, small, below), omega (arith, p .gives, small, below))
+
+-- g is the destination of the brightness, h that of the directions' numbers
+module _ {f : List ℕ} {sh : Shape} {L : ℕ} {g g′ h h′ t t′ : List ℕ} {a : Answer} (p : FindsHighest f sh L g g′ h h′ t t′ a) where
+  pub highest-settled : Settled (highestRules sh L (length f) (length g) (length h) (length t)) 0 a ((g′ ≡ g) × (h′ ≡ h) × (t′ ≡ t))
+  highest-settled = settled _ _ refl (p .answers) (p .refused)
+
+  -- '6 is given when either destination is short ..; the bytes needed are the same'
+  pub highest-short : isFrame sh ≡ true → 1 ≤ L → L ≤ longest → needed sh ≤ length f → (length g < needed sh) ⊎ (length h < needed sh) → a ≡ refusal 6 (needed sh)
+  highest-short ok some most source short =
+      let shorter : min (length g) (length h) < needed sh = ⊎-elim (λ bright. omega arith) (λ numbers. omega arith) short in
+      p .answers
+      ∙ highest-rules sh L (length f) (length g) (length h) (length t)
+      ∙ rw (ok, not-outside 1 longest L some most, le-ltb (length f) (needed sh) source, lt-ltb (min (length g) (length h)) (needed sh) shorter)
+
+  -- 'the brightness one first': with the two destinations exchanged the answer is the same
+  pub highest-exchanged : {g₁ h₁ t₁ : List ℕ} {b : Answer} → FindsHighest f sh L h h₁ g g₁ t t₁ b → a ≡ b
+  highest-exchanged q =
+      let shorter : min (length g) (length h) ≡ min (length h) (length g) = omega arith in
+      p .answers
+      ∙ highest-rules sh L (length f) (length g) (length h) (length t)
+      ∙ ap (λ (room : ℕ). answer (openFrameRules sh along L (length f) room (length t)) 0) shorter
+      ∙ sym (q .answers ∙ highest-rules sh L (length f) (length h) (length g) (length t))
 
 pub list-settled : {f : List ℕ} {table table′ : List Nested} {t t′ : List ℕ} {a : Answer} → ListsLine f table table′ t t′ a
     → Settled (listRules (length f) (length t) (length table) (length (stretches f))) (length (stretches f)) a ((table′ ≡ table) × (t′ ≡ t))

@@ -113,7 +113,7 @@ pub frame-sum-opened : {f : List ℕ} {sh : Shape} {d : Direction} {L : ℕ} {g 
     → frameSum f sh d L ≡ frameLight g′ sh
 frame-sum-opened {f} {sh} {d} {L} {g} {g′} {t} p z =
     sym (ap total (table-same _ _ (lineCount sh d) (λ u l. ap total (frame-lines p z (firstLine sh d +ℤ pos u)))))
-    ∙ lines-light g′ sh d (open-ready sh L (length f) (length g) (length t) d (p .answers) z .ok)
+    ∙ lines-light g′ sh d (open-ready sh L (length f) (length g) d (length t) (p .answers) z .ok)
 
 -- ---- the rose
 

@@ -4,13 +4,17 @@
 --   line-dark, line-copied, line-unwritten        an opening of a line that is 0 everywhere, that copies its source, that writes no pixel
 --   frame-dark, frame-copied, frame-unwritten     the same of a frame
 --   highest-dark, highest-unwritten, directions-dark, directions-unwritten    the highest opening or its directions, 0 everywhere or not written
+--   gap-numbered                      a direction's number between the rows
+--   frame-asked                       the highest opening refused where scratch has what rule 7 asks, but no frame more
+--   second-unseen, second-misnamed, half-written    too short a destination for the directions: a done call, another number or figure, the brightness written
 --   first-row-only, first-line-only   a frame opening that treats its first line and copies the rest, along and on the diagonal
 --   count-invented, whole-line-only   a listing with an invented count, or with only the whole line
 --   longest-encloser, next-whatever, own-place, from-one    a fifth number that is the place of the longest encloser, of the next record whatever it is, of the record itself, or
 --                                     is counted from 1
 --   enclosers-unwritten, enclosers-reversed    the call `enclosers` where it writes no place, or the places in the opposite order
 --   bookmark-invented                 a step of a reading that hands back another bookmark
---   across-for-along, rows-exchanged, numbers-exchanged    results filed under the other's direction: of a frame opening, the rose and the direction frame
+--   across-for-along, rows-exchanged, numbers-exchanged    results filed under the other's direction: of a frame opening, the rose and the highest opening
+--   under-another                     the brightness of one direction under another's number
 --   tie-to-last                       a tie given to the last
 --   counted-as-pixels, rounded-down, by-the-lesser    a length that counts pixels in every direction, its count rounded down, or measured by the lesser number of the pair
 --   frame-by-pixels, line-by-length   a slanted frame opened with as many pixels as the length says; a line opened with fewer
@@ -23,12 +27,12 @@ use mathlib.Core.List.{List, [], _∷_, map}
 use Prim.Native.Nat.{ℕ, _+_, _-_, _*_, _^_}
 use native.Mathlib.Omega.{arith}
 use lib.IntN.{pos}
-use lib.ListN.{getD, drop, replicate}
+use lib.ListN.{getD, take, drop, replicate}
 use Rattle.lists.specs.Tables as tables
 use Rattle.lists.specs.Extremes as extremes
 use Rattle.lists.specs.Stores.{front}
 use Rattle.answer.specs.declared.Answer.{Answer}
-use Rattle.answer.specs.Rules.{done, answer, after}
+use Rattle.answer.specs.Rules.{done, refusal, answer, after}
 use Rattle.line.specs.Windows as windows
 use Rattle.line.specs.Windows.{opened}
 use Rattle.line.specs.Erosion.{ErodesLine}
@@ -42,13 +46,12 @@ use Rattle.frame.specs.Length as measures
 use Rattle.frame.specs.Length.{pixelsFor, pixelsOrNone}
 use Rattle.frame.specs.Lines as lines
 use Rattle.gathering.specs.Gathering.{Gathers}
-use Rattle.gathering.specs.Scattering.{Scatters, Raises}
+use Rattle.gathering.specs.Scattering.{Scatters}
 use Rattle.frame.specs.Painted.{Painted}
 use Rattle.opening.specs.Pixels as leading
 use Rattle.opening.specs.Pixels.{openedPixel}
 use Rattle.opening.specs.Frames.{OpensFrame}
 use Rattle.opening.specs.Sixteen.{FindsHighest}
-use Rattle.opening.specs.Directions.{FindsDirections}
 use Rattle.opening.specs.Host.{HostOpens}
 use Rattle.bright.specs.declared.Nested.{Nested}
 use Rattle.bright.specs.declared.Step.{Step}
@@ -127,10 +130,6 @@ module _ {g′ : List ℕ} {a : Answer} where
   unfolding tables.each lines.r
   refusing-scatter p = answered (p .answers) refl
 
-  pub refusing-raise : Raises nines small diagonal (pos 0) sixes g′ a → Refused a → ⊥
-  unfolding tables.each lines.r
-  refusing-raise p = answered (p .answers) refl
-
 module _ {g′ t′ : List ℕ} {a : Answer} where
   pub refusing-open-line : OpensLine line 2 nines g′ spare t′ a → Refused a → ⊥
   refusing-open-line p = answered (p .answers) refl
@@ -138,11 +137,8 @@ module _ {g′ t′ : List ℕ} {a : Answer} where
   pub refusing-open-frame : OpensFrame strand small diagonal 3 sixes g′ spare t′ a → Refused a → ⊥
   refusing-open-frame p = answered (p .answers) refl
 
-  pub refusing-highest : FindsHighest strand small 3 sixes g′ spare t′ a → Refused a → ⊥
+  pub refusing-highest : {h′ : List ℕ} → FindsHighest strand small 3 sixes g′ sixes h′ spare t′ a → Refused a → ⊥
   refusing-highest p = answered (p .answers) refl
-
-  pub refusing-directions : FindsDirections strand small 3 sixes g′ spare t′ a → Refused a → ⊥
-  refusing-directions p = answered (p .answers) refl
 
   pub refusing-sums-of-line : SumsLine line nines g′ spare t′ a → Refused a → ⊥
   refusing-sums-of-line p = answered (p .answers) refl
@@ -238,23 +234,45 @@ module _ {t′ : List ℕ} {a : Answer} where
 
 -- ---- the highest opening and its direction, dark or not written
 
-module _ {t′ : List ℕ} {a : Answer} where
-  pub highest-dark : FindsHighest strand small 3 sixes (0 ∷ 0 ∷ 0 ∷ 8 ∷ 0 ∷ 0 ∷ 0 ∷ 8 ∷ 0 ∷ 0 ∷ 0 ∷ []) spare t′ a → ⊥
+module _ {other t′ : List ℕ} {a : Answer} where
+  pub highest-dark : FindsHighest strand small 3 sixes (0 ∷ 0 ∷ 0 ∷ 8 ∷ 0 ∷ 0 ∷ 0 ∷ 8 ∷ 0 ∷ 0 ∷ 0 ∷ []) sixes other spare t′ a → ⊥
   unfolding tables.each extremes.least extremes.greatest windows.opened measures.firstFrom lines.r lines.indexIn leading.openedPixel
-  highest-dark p = let corner : _≡_ {A = ℕ} 0 9 = p .done (done-number (p .answers)) .pixels 0 0 (omega arith) (omega arith) in omega (arith, corner)
+  highest-dark p = let corner : _≡_ {A = ℕ} 0 9 = p .brightness (done-number (p .answers)) .pixels 0 0 (omega arith) (omega arith) in omega (arith, corner)
 
-  pub highest-unwritten : FindsHighest strand small 3 sixes sixes spare t′ a → ⊥
+  pub highest-unwritten : FindsHighest strand small 3 sixes sixes sixes other spare t′ a → ⊥
   unfolding tables.each extremes.least extremes.greatest windows.opened measures.firstFrom lines.r lines.indexIn leading.openedPixel
-  highest-unwritten p = let corner : _≡_ {A = ℕ} 6 9 = p .done (done-number (p .answers)) .pixels 0 0 (omega arith) (omega arith) in omega (arith, corner)
+  highest-unwritten p = let corner : _≡_ {A = ℕ} 6 9 = p .brightness (done-number (p .answers)) .pixels 0 0 (omega arith) (omega arith) in omega (arith, corner)
 
   -- the diagonal is first held by direction 3
-  pub directions-dark : FindsDirections strand small 3 sixes (0 ∷ 0 ∷ 0 ∷ 8 ∷ 0 ∷ 0 ∷ 0 ∷ 8 ∷ 0 ∷ 0 ∷ 0 ∷ []) spare t′ a → ⊥
+  pub directions-dark : FindsHighest strand small 3 sixes other sixes (0 ∷ 0 ∷ 0 ∷ 8 ∷ 0 ∷ 0 ∷ 0 ∷ 8 ∷ 0 ∷ 0 ∷ 0 ∷ []) spare t′ a → ⊥
   unfolding tables.each extremes.least extremes.greatest windows.opened measures.firstFrom lines.r lines.indexIn leading.openedPixel leading.firstGreatest
-  directions-dark p = let corner : _≡_ {A = ℕ} 0 3 = p .done (done-number (p .answers)) .pixels 0 0 (omega arith) (omega arith) in omega (arith, corner)
+  directions-dark p = let corner : _≡_ {A = ℕ} 0 3 = p .directions (done-number (p .answers)) .pixels 0 0 (omega arith) (omega arith) in omega (arith, corner)
 
-  pub directions-unwritten : FindsDirections strand small 3 sixes sixes spare t′ a → ⊥
+  pub directions-unwritten : FindsHighest strand small 3 sixes other sixes sixes spare t′ a → ⊥
   unfolding tables.each extremes.least extremes.greatest windows.opened measures.firstFrom lines.r lines.indexIn leading.openedPixel leading.firstGreatest
-  directions-unwritten p = let corner : _≡_ {A = ℕ} 6 3 = p .done (done-number (p .answers)) .pixels 0 0 (omega arith) (omega arith) in omega (arith, corner)
+  directions-unwritten p = let corner : _≡_ {A = ℕ} 6 3 = p .directions (done-number (p .answers)) .pixels 0 0 (omega arith) (omega arith) in omega (arith, corner)
+
+-- ---- 'one call with two destinations'
+
+module _ {g′ h′ t′ : List ℕ} {a : Answer} where
+  -- byte 3 stands between two rows
+  pub gap-numbered : {i j k : ℕ} → FindsHighest strand small 3 sixes g′ sixes (i ∷ j ∷ k ∷ 0 ∷ h′) spare t′ a → ⊥
+  gap-numbered p = let between : _≡_ {A = ℕ} 0 8 = p .directions (done-number (p .answers)) .gaps 3 (λ x y wide high e. omega arith) in omega (arith, between)
+
+  -- rule 7 asks 8·3 bytes; with the 3·3 of a frame besides it would ask 33
+  pub frame-asked : FindsHighest strand small 3 sixes g′ sixes h′ (take 24 spare) t′ a → a .number ≡ 7 → ⊥
+  frame-asked p seven = let none : _≡_ {A = ℕ} 7 0 = sym seven ∙ done-number (p .answers) in omega (arith, none)
+
+-- the frame needs 11 bytes, and the directions' destination has 10
+module _ {g′ h′ t′ : List ℕ} {a : Answer} where
+  pub second-unseen : FindsHighest strand small 3 sixes g′ (take 10 sixes) h′ spare t′ a → a .number ≡ 0 → ⊥
+  second-unseen p z = let six : _≡_ {A = ℕ} 0 6 = sym z ∙ ap (λ (a : Answer). a .number) (p .answers) in omega (arith, six)
+
+  pub second-misnamed : FindsHighest strand small 3 sixes g′ (take 10 sixes) h′ spare t′ a → (a ≡ refusal 6 11 → ⊥) → ⊥
+  second-misnamed p another = another (p .answers)
+
+pub half-written : {rest h′ t′ : List ℕ} {a : Answer} → FindsHighest strand small 3 sixes (9 ∷ rest) (take 10 sixes) h′ spare t′ a → ⊥
+half-written p = differ 0 (λ e. omega arith) (p .refused (second-unseen p) .0)
 
 -- ---- 'a listing with an invented count or only the whole line (demand 3)'
 
@@ -328,15 +346,21 @@ module _ {rest t′ : List ℕ} {a : Answer} where
   unfolding tables.each extremes.least extremes.greatest windows.opened measures.firstFrom lines.r lines.indexIn leading.openedPixel
   across-for-along p = let below : _≡_ {A = ℕ} 1 9 = p .done (done-number (p .answers)) .pixels 0 1 (omega arith) (omega arith) in omega (arith, below)
 
+module _ {g′ h′ t′ : List ℕ} {a : Answer} where
   -- along, number 0, holds every pixel of a bright row; 8, across, stands in its place
-  pub numbers-exchanged : FindsDirections bar small 3 sixes (8 ∷ rest) spare t′ a → ⊥
+  pub numbers-exchanged : FindsHighest bar small 3 sixes g′ sixes (8 ∷ h′) spare t′ a → ⊥
   unfolding tables.each extremes.least extremes.greatest windows.opened measures.firstFrom lines.r lines.indexIn leading.openedPixel leading.firstGreatest
-  numbers-exchanged p = let corner : _≡_ {A = ℕ} 8 0 = p .done (done-number (p .answers)) .pixels 0 0 (omega arith) (omega arith) in omega (arith, corner)
+  numbers-exchanged p = let corner : _≡_ {A = ℕ} 8 0 = p .directions (done-number (p .answers)) .pixels 0 0 (omega arith) (omega arith) in omega (arith, corner)
+
+  -- the corner of a diagonal is 9 in direction 3; 1, its opening along, stands beside that number
+  pub under-another : FindsHighest strand small 3 sixes (1 ∷ g′) sixes (3 ∷ h′) spare t′ a → ⊥
+  unfolding tables.each extremes.least extremes.greatest windows.opened measures.firstFrom lines.r lines.indexIn leading.openedPixel
+  under-another p = let corner : _≡_ {A = ℕ} 1 9 = p .brightness (done-number (p .answers)) .pixels 0 0 (omega arith) (omega arith) in omega (arith, corner)
 
   -- 3, 4 and 5 all hold the diagonal of a frame of 3 by 3 pixels; the lowest number has it
-  pub tie-to-last : FindsDirections strand small 3 sixes (5 ∷ rest) spare t′ a → ⊥
+  pub tie-to-last : FindsHighest strand small 3 sixes g′ sixes (5 ∷ h′) spare t′ a → ⊥
   unfolding tables.each extremes.least extremes.greatest windows.opened measures.firstFrom lines.r lines.indexIn leading.openedPixel leading.firstGreatest
-  tie-to-last p = let corner : _≡_ {A = ℕ} 5 3 = p .done (done-number (p .answers)) .pixels 0 0 (omega arith) (omega arith) in omega (arith, corner)
+  tie-to-last p = let corner : _≡_ {A = ℕ} 5 3 = p .directions (done-number (p .answers)) .pixels 0 0 (omega arith) (omega arith) in omega (arith, corner)
 
 -- the row of across under the number of along: the first bin of a bright row is 0 along, and 24 across
 pub rows-exchanged : {t′ : List ℕ} {r : List (List ℕ)} → Roses bar small spare t′ r → getD r 0 [] ≡ frameSums bar small (numberedOf 8) 32 → ⊥

@@ -113,7 +113,7 @@ fn lookup(c: Case, src: &[u8]) -> Got {
     }
 }
 
-fn openings(c: Case, src: &[u8], dst: &mut [u8], scratch: &mut [u8]) -> Got {
+fn openings(c: Case, src: &[u8], dst: &mut [u8], directions: &mut [u8], scratch: &mut [u8]) -> Got {
     let which = c.call;
     let shape = shape_of(c);
     let d = direction_of(c);
@@ -121,15 +121,20 @@ fn openings(c: Case, src: &[u8], dst: &mut [u8], scratch: &mut [u8]) -> Got {
         20 => answered(gathering::gather(src, shape, d, c.line, dst)),
         21 => answered(gathering::scatter(src, shape, d, c.line, dst)),
         22 => answered(opening::open_frame(src, shape, d, c.length, dst, scratch)),
-        23 => answered(opening::highest(src, shape, c.length, dst, scratch)),
-        24 => answered(opening::direction_frame(src, shape, c.length, dst, scratch)),
+        23 => answered(opening::highest(src, shape, c.length, dst, directions, scratch)),
         _ => nothing(),
     }
 }
 
-pub(crate) fn call(c: Case, src: &[u8], dst: &mut [u8], scratch: &mut [u8]) -> Got {
+pub(crate) fn call(
+    c: Case,
+    src: &[u8],
+    dst: &mut [u8],
+    directions: &mut [u8],
+    scratch: &mut [u8],
+) -> Got {
     if c.call < 20 {
         return lookup(c, src);
     }
-    openings(c, src, dst, scratch)
+    openings(c, src, dst, directions, scratch)
 }

@@ -2,7 +2,7 @@
 use crate::draw::least;
 
 // How many numbers a case has.
-const FIELDS: usize = 13;
+const FIELDS: usize = 14;
 
 // A case: the call, how its buffers are filled, and its arguments; what a call does not take is 0.
 pub(crate) struct Case {
@@ -18,6 +18,7 @@ pub(crate) struct Case {
     pub length: usize,
     pub src: usize,
     pub dst: usize,
+    pub directions: usize,
     pub scratch: usize,
 }
 
@@ -91,7 +92,7 @@ fn number(text: &[u8], from: usize) -> Found {
 }
 
 // Reads the numbers of the case that starts at `from`, and hands back where the next one starts.
-pub(crate) fn numbers(text: &[u8], from: usize, fields: &mut [u64; 13]) -> usize {
+pub(crate) fn numbers(text: &[u8], from: usize, fields: &mut [u64; 14]) -> usize {
     let mut at = from;
     let mut i = 0;
     while i < FIELDS {
@@ -129,7 +130,7 @@ fn signed(bits: u64) -> i64 {
     negative(std::num::wrapping_sub_u64(0, bits))
 }
 
-pub(crate) fn case_of(fields: &[u64; 13]) -> Case {
+pub(crate) fn case_of(fields: &[u64; 14]) -> Case {
     Case {
         call: fields[0],
         kind: fields[1],
@@ -143,6 +144,7 @@ pub(crate) fn case_of(fields: &[u64; 13]) -> Case {
         length: fields[9] as usize,
         src: fields[10] as usize,
         dst: fields[11] as usize,
-        scratch: fields[12] as usize,
+        directions: fields[12] as usize,
+        scratch: fields[13] as usize,
     }
 }

@@ -50,12 +50,20 @@ fn prepare_source(c: Case, src: &mut [u8]) {
     }
 }
 
-// Source and sums are what the case says; destination and scratch hold noise.
-fn prepare(c: Case, src: &mut [u8], dst: &mut [u8], sums: &mut [u64], scratch: &mut [u8]) {
+// Source and sums are what the case says; destinations and scratch hold noise.
+fn prepare(
+    c: Case,
+    src: &mut [u8],
+    dst: &mut [u8],
+    directions: &mut [u8],
+    sums: &mut [u64],
+    scratch: &mut [u8],
+) {
     prepare_source(c, src);
     fill(dst, guarded(c.dst), 0, shifted(c.seed, 1));
     fill_sums(sums, guarded(entries(c)), c.kind, shifted(c.seed, 2));
     fill(scratch, guarded(c.scratch), 0, shifted(c.seed, 3));
+    fill(directions, guarded(c.directions), 0, shifted(c.seed, 4));
 }
 
 fn call_line(c: Case, src: &[u8], dst: &mut [u8], scratch: &mut [u8]) -> Got {
@@ -65,11 +73,24 @@ fn call_line(c: Case, src: &[u8], dst: &mut [u8], scratch: &mut [u8]) -> Got {
     lines::call(c, &src[..n], &mut dst[..d], &mut scratch[..t])
 }
 
-fn call_frame(c: Case, src: &[u8], dst: &mut [u8], scratch: &mut [u8]) -> Got {
+fn call_frame(
+    c: Case,
+    src: &[u8],
+    dst: &mut [u8],
+    directions: &mut [u8],
+    scratch: &mut [u8],
+) -> Got {
     let n = least(c.src, src.len());
     let d = least(c.dst, dst.len());
+    let h = least(c.directions, directions.len());
     let t = least(c.scratch, scratch.len());
-    frames::call(c, &src[..n], &mut dst[..d], &mut scratch[..t])
+    frames::call(
+        c,
+        &src[..n],
+        &mut dst[..d],
+        &mut directions[..h],
+        &mut scratch[..t],
+    )
 }
 
 fn call_sums(c: Case, src: &[u8], sums: &mut [u64], scratch: &mut [u8]) -> Got {
@@ -86,12 +107,19 @@ fn call_text(c: Case, src: &[u8], dst: &mut [u8], sums: &[u64]) -> Got {
     texts::call(c, &src[..n], &mut dst[..d], &sums[..k])
 }
 
-fn call(c: Case, src: &[u8], dst: &mut [u8], sums: &mut [u64], scratch: &mut [u8]) -> Got {
+fn call(
+    c: Case,
+    src: &[u8],
+    dst: &mut [u8],
+    directions: &mut [u8],
+    sums: &mut [u64],
+    scratch: &mut [u8],
+) -> Got {
     if c.call < 10 {
         return call_line(c, src, dst, scratch);
     }
     if c.call < 30 {
-        return call_frame(c, src, dst, scratch);
+        return call_frame(c, src, dst, directions, scratch);
     }
     if c.call < 40 {
         return call_sums(c, src, sums, scratch);
@@ -100,11 +128,19 @@ fn call(c: Case, src: &[u8], dst: &mut [u8], sums: &mut [u64], scratch: &mut [u8
 }
 
 // The checksum of all that was lent to be written, with the bytes behind. What a done call leaves in its scratch is not settled.
-fn check_left(c: Case, done: bool, dst: &[u8], sums: &[u64], scratch: &[u8]) -> u64 {
+fn check_left(
+    c: Case,
+    done: bool,
+    dst: &[u8],
+    directions: &[u8],
+    sums: &[u64],
+    scratch: &[u8],
+) -> u64 {
     let from = if done { c.scratch } else { 0 };
     let first = check_bytes(1, dst, 0, guarded(c.dst));
-    let second = check_sums(first, sums, guarded(entries(c)));
-    check_bytes(second, scratch, from, guarded(c.scratch))
+    let second = check_bytes(first, directions, 0, guarded(c.directions));
+    let third = check_sums(second, sums, guarded(entries(c)));
+    check_bytes(third, scratch, from, guarded(c.scratch))
 }
 
 fn show(case: u64, got: Got, left: u64) {
@@ -131,18 +167,26 @@ fn run_case(
     c: Case,
     src: &mut [u8],
     dst: &mut [u8],
+    directions: &mut [u8],
     sums: &mut [u64],
     scratch: &mut [u8],
 ) {
-    prepare(c, src, dst, sums, scratch);
-    let got = call(c, src, dst, sums, scratch);
-    let left = check_left(c, got.number == 0, dst, sums, scratch);
+    prepare(c, src, dst, directions, sums, scratch);
+    let got = call(c, src, dst, directions, sums, scratch);
+    let left = check_left(c, got.number == 0, dst, directions, sums, scratch);
     show(number, got, left);
 }
 
 // Runs the cases one after the other in the same buffers.
-fn run(text: &[u8], src: &mut [u8], dst: &mut [u8], sums: &mut [u64], scratch: &mut [u8]) {
-    let mut fields = [0u64; 13];
+fn run(
+    text: &[u8],
+    src: &mut [u8],
+    dst: &mut [u8],
+    directions: &mut [u8],
+    sums: &mut [u64],
+    scratch: &mut [u8],
+) {
+    let mut fields = [0u64; 14];
     let mut at = 0;
     let mut k = 0;
     while k < MOST {
@@ -153,21 +197,30 @@ fn run(text: &[u8], src: &mut [u8], dst: &mut [u8], sums: &mut [u64], scratch: &
         k += 1;
         let c = input::case_of(&fields);
         at = input::bytes(text, at, brought(c), src);
-        run_case(k as u64, c, src, dst, sums, scratch);
+        run_case(k as u64, c, src, dst, directions, sums, scratch);
     }
 }
 
-// Lends the buffers: room for the longest input and one byte more, for the longest sums text, and for a direction frame's scratch.
+// Lends the buffers: room for the longest input and one byte more, for the longest sums text, for the directions of the largest frame, and for the scratch of the
+// longest side with a frame besides.
 fn lend(text: &[u8]) {
     let mut src = [0u8; 65664];
     let mut dst = [0u8; 131072];
+    let mut directions = [0u8; 16384];
     let mut sums = [0u64; 4224];
     let mut scratch = [0u8; 49152];
-    run(text, &mut src, &mut dst, &mut sums, &mut scratch);
+    run(
+        text,
+        &mut src,
+        &mut dst,
+        &mut directions,
+        &mut sums,
+        &mut scratch,
+    );
 }
 
 fn main() {
-    let mut text = [0u8; 524288];
+    let mut text = [0u8; 1048576];
     let n = io::read_full(STDIN_FILENO, &mut text);
     lend(&text[..n]);
 }

@@ -7,10 +7,10 @@ use Rattle.vectors.proofs.run.Statement.{statement}
 use Rattle.vectors.proofs.run.Tie as tie
 
 abbrev Inv-loop : tie.InvT-loop
-Inv-loop text src₀ dst₀ sums₀ scratch₀ fields₀ at₀ k₀ src dst sums scratch fields at k = (length src ≡ length src₀) × (length dst ≡ length dst₀) × (length sums ≡ length sums₀) × (length scratch ≡ length scratch₀)
+Inv-loop text src₀ dst₀ directions₀ sums₀ scratch₀ fields₀ at₀ k₀ src dst directions sums scratch fields at k = (length src ≡ length src₀) × (length dst ≡ length dst₀) × (length directions ≡ length directions₀) × (length sums ≡ length sums₀) × (length scratch ≡ length scratch₀)
 
 abbrev μ-loop : tie.MeasureT-loop
-μ-loop text src₀ dst₀ sums₀ scratch₀ fields₀ at₀ k₀ src dst sums scratch fields at k = 100000 - k
+μ-loop text src₀ dst₀ directions₀ sums₀ scratch₀ fields₀ at₀ k₀ src dst directions sums scratch fields at k = 100000 - k
 
 loop-holds : tie.Need-loop-holds Inv-loop μ-loop
 loop-holds c = search needs
@@ -51,11 +51,11 @@ same-length-3 c = search needs
 same-length-4 : tie.Need-same-length-4 Inv-loop μ-loop
 same-length-4 c = search needs
 
-returns : tie.Need-returns Inv-loop μ-loop
-returns c = search needs
-
 same-length-5 : tie.Need-same-length-5 Inv-loop μ-loop
 same-length-5 c = search needs
+
+returns : tie.Need-returns Inv-loop μ-loop
+returns c = search needs
 
 same-length-6 : tie.Need-same-length-6 Inv-loop μ-loop
 same-length-6 c = search needs
@@ -65,6 +65,12 @@ same-length-7 c = search needs
 
 same-length-8 : tie.Need-same-length-8 Inv-loop μ-loop
 same-length-8 c = search needs
+
+same-length-9 : tie.Need-same-length-9 Inv-loop μ-loop
+same-length-9 c = search needs
+
+same-length-10 : tie.Need-same-length-10 Inv-loop μ-loop
+same-length-10 c = search needs
 
 returns-2 : tie.Need-returns-2 Inv-loop μ-loop
 returns-2 c = search needs
@@ -88,9 +94,11 @@ run-spec =
     same-length-2
     same-length-3
     same-length-4
-    returns
     same-length-5
+    returns
     same-length-6
     same-length-7
     same-length-8
+    same-length-9
+    same-length-10
     returns-2)

@@ -1,106 +1,81 @@
 -- The first y rows have claimed pixels.
-use mathlib.Core.Path.{_≡_, refl, sym, _∙_}
-use Prim.Native.Nat.{_-_, _≤_}
+use mathlib.Core.Path.{_≡_, ap, ap₂}
+use Prim.Native.Nat.{ℕ, _+_, _-_, _*_, _≤_, max}
 use native.Mathlib.Omega.{arith}
-use lib.ListN.{length as size}
-use lib.Seq.{length-take-le}
+use lib.ListN.{length, getD}
+use Rattle.frame.specs.Shape.{shape}
+use Rattle.frame.specs.Painted.{Painted}
+use Rattle.frame.proofs.Alongs.{row-ends}
 use Rattle.frame.proofs.Shapes.{framed}
-use Rattle.opening.proofs.Bands.{gapless-row}
-use Rattle.opening.proofs.Claimings.{tail-size, RowsClaimed, claimed-none, claimed-more, claimed-end}
+use Rattle.gathering.specs.Claiming.{claims}
+use Rattle.opening.proofs.Bands.{gapless-row, rows-none, rows-left, rows-by, rows-end}
 use borrow.Author.Needs.{needs}
 use Rattle.opening.proofs.claiming.claim_rows.Statement.{statement}
 use Rattle.opening.proofs.claiming.claim_rows.Tie as tie
 
 abbrev Inv-loop : tie.InvT-loop
-Inv-loop number shape behind dst₀ scratch₀ width row₀ y₀ dst scratch row y =
-    (y ≤ shape .height) × (size row ≡ 4096) × RowsClaimed shape number behind y scratch₀ scratch dst₀ dst
+Inv-loop new number sh dst₀ directions₀ width y₀ dst directions y =
+    (y ≤ sh .height)
+    × Painted (shape (sh .width) y (sh .stride)) (λ (x n : ℕ). max (getD dst₀ (n * sh .stride + x) 0) (getD new (n * sh .width + x) 0)) dst₀ dst
+    × Painted (shape (sh .width) y (sh .stride))
+    (λ (x n : ℕ). claims (getD dst₀ (n * sh .stride + x) 0) number (getD new (n * sh .width + x) 0) (getD directions₀ (n * sh .stride + x) 0)) directions₀ directions
 
 abbrev μ-loop : tie.MeasureT-loop
-μ-loop number shape behind dst₀ scratch₀ width row₀ y₀ dst scratch row y = shape .height - y
+μ-loop new number sh dst₀ directions₀ width y₀ dst directions y = sh .height - y
 
 loop-holds : tie.Need-loop-holds Inv-loop μ-loop
-loop-holds c = (search needs, refl, claimed-none _ _ _ _ _)
+loop-holds c = (search needs, rows-none _ _ _ _, rows-none _ _ _ _)
 
-mul-from : tie.Need-mul-from Inv-loop μ-loop
-mul-from c =
-    let a = c .before .before .before .before .before .args in
-    omega (arith, gapless-row (a .shape) (c .before .before .loop .y) (c .if1 .taken))
+mul-claim : tie.Need-mul-claim Inv-loop μ-loop
+mul-claim c = omega (arith, gapless-row (c .before .before .before .before .before .before .args .shape) (c .before .before .loop .y) (c .if1 .taken))
 
-sub-copy : tie.Need-sub-copy Inv-loop μ-loop
-sub-copy c =
-    let a = c .before .before .before .before .before .args in
-    omega (arith, gapless-row (a .shape) (c .before .before .loop .y) (c .if1 .taken), c .before .before .loop .inv .2 .same)
+mul-claim-2 : tie.Need-mul-claim-2 Inv-loop μ-loop
+mul-claim-2 c = omega (arith, row-ends (c .before .before .before .before .before .before .before .before .before .args .shape) (c .before .before .before .before .before .loop .y) (c .before .before .before .if1 .taken))
 
-part-copy-start : tie.Need-part-copy-start Inv-loop μ-loop
-part-copy-start c =
-    let a = c .before .before .before .before .before .before .args in
-    omega (arith, gapless-row (a .shape) (c .before .before .before .loop .y) (c .before .if1 .taken), c .before .before .before .loop .inv .2 .same)
-
-part-copy-end : tie.Need-part-copy-end Inv-loop μ-loop
-part-copy-end c = search needs
-
-slice-aggregate-copy : tie.Need-slice-aggregate-copy Inv-loop μ-loop
-slice-aggregate-copy c = sym (c .before .before .before .before .before .loop .inv .1)
-
-copy-requires : tie.Need-copy-requires Inv-loop μ-loop
-copy-requires c κs = search needs
-
-array-share-prefix-row : tie.Need-array-share-prefix-row Inv-loop μ-loop
-array-share-prefix-row c =
-    let b = c .before .before .before .before .before .before .before .before .before .before in
-    omega (arith, framed (b .args .shape) (b .pre .0), c .before .copy .kept .1 .1 .0, c .before .before .before .before .before .before .before .loop .inv .1)
-
-slice-aggregate-claim-row : tie.Need-slice-aggregate-claim-row Inv-loop μ-loop
-slice-aggregate-claim-row c =
-    let b = c .before .before .before .before .before .before .before .before .before .before .before in
-    sym (length-take-le _ _ (omega (arith, framed (b .args .shape) (b .pre .0), c .before .before .copy .kept .1 .1 .0, c .before .before .before .before .before .before .before .before .loop .inv .1)))
-
-sub-claim-row : tie.Need-sub-claim-row Inv-loop μ-loop
-sub-claim-row c = omega (arith, c .before .before .before .before .before .before .before .before .loop .inv .2 .same)
-
-part-claim-row-start : tie.Need-part-claim-row-start Inv-loop μ-loop
-part-claim-row-start c = omega (arith, c .before .before .before .before .before .before .before .before .loop .inv .2 .same)
-
-part-claim-row-end : tie.Need-part-claim-row-end Inv-loop μ-loop
-part-claim-row-end c = search needs
-
-claim-row-requires : tie.Need-claim-row-requires Inv-loop μ-loop
-claim-row-requires c κs =
-    let b = c .before .before .before .before .before .before .before .before .before .before .before .before .before in
-    let loop = c .before .before .before .before .before .before .before .before .before .before .loop in
-    let copy = c .before .before .before .before .copy in
-    let row =
-    length-take-le (b .args .shape .width) (copy .last .1 .1 .0) (omega (arith, framed (b .args .shape) (b .pre .0), copy .kept .1 .1 .0, loop .inv .1)) in
-    (b .pre .0, c .before .before .before .before .before .before .before .before .if1 .taken, row, omega (arith, tail-size (b .args .behind) (loop .scratch), loop .inv .2 .same, b .pre .2), omega (arith, loop .inv .2 .holders .same, b .pre .3))
+claim-requires : tie.Need-claim-requires Inv-loop μ-loop
+claim-requires c κs = search needs
 
 add-y : tie.Need-add-y Inv-loop μ-loop
-add-y c = omega (arith, c .before .before .before .before .before .before .before .before .before .before .before .before .before .if1 .taken)
+add-y c = search needs
 
 loop-less : tie.Need-loop-less Inv-loop μ-loop
-loop-less c = omega (arith, c .before .before .before .before .before .before .before .before .before .before .before .before .before .if1 .taken)
+loop-less c = search needs
 
 loop-again : tie.Need-loop-again Inv-loop μ-loop
 loop-again c =
-    let b = c .before .before .before .before .before .before .before .before .before .before .before .before .before .before .before .before .before .before in
-    let loop = c .before .before .before .before .before .before .before .before .before .before .before .before .before .before .before .loop in
-    let taken = c .before .before .before .before .before .before .before .before .before .before .before .before .before .if1 .taken in
-    let copy = c .before .before .before .before .before .before .before .before .before .copy in
-    let row = c .before .before .before .before .claim-row in
-    let sides = framed (b .args .shape) (b .pre .0) in (
+    let a = c .before .before .before .before .before .before .before .before .before .before .before .before .before .before .args in
+    let pre = c .before .before .before .before .before .before .before .before .before .before .before .before .before .before .pre in
+    let loop = c .before .before .before .before .before .before .before .before .before .before .loop in
+    let y = loop .y in
+    let taken = c .before .before .before .before .before .before .before .before .if1 .taken in
+    let claim = c .before .before .before .before .claim .ensures in
+    let W = a .shape .width in
+    let S = a .shape .stride in
+    let past = framed (a .shape) (pre .0) .past in
+    let new : ℕ → ℕ → ℕ = λ (x n : ℕ). getD (a .new .now) (n * W + x) 0 in
+    let from : y * W + W ≤ length (a .new .now) = omega (arith, gapless-row (a .shape) y taken, pre .1) in
+    let room : y * S + W ≤ length (loop .dst) = omega (arith, row-ends (a .shape) y taken, pre .2, loop .inv .1 .same) in
+    let second : y * S + W ≤ length (loop .directions) = omega (arith, row-ends (a .shape) y taken, pre .3, loop .inv .2 .same) in (
       omega (arith, taken),
-      copy .kept .1 .1 .0 ∙ loop .inv .1,
-      claimed-more (b .args .shape) (b .args .number) (b .args .behind) (loop .y) sides taken (b .pre .1) (omega (arith, b .pre .2)) (loop .inv .2)
-          (omega (arith, sides, loop .inv .1)) (copy .ensures) (row .ensures .0) (row .ensures .1),
+      rows-by W S (λ (x n old : ℕ). max old (new x n)) y past (loop .inv .1) (claim .raised from room second)
+          (λ x h.
+          let e : y * S + x - y * S ≡ x = omega arith in
+          ap (λ (k : ℕ). max (getD (loop .dst) (y * S + x) 0) (new k y)) e),
+      rows-by W S (λ (x n old : ℕ). claims (getD (a .dst .now) (n * S + x) 0) (a .number) (new x n) old) y past (loop .inv .2) (claim .held from room second)
+          (λ x h.
+          let e : y * S + x - y * S ≡ x = omega arith in
+          ap₂ (λ (m k : ℕ). claims m (a .number) (new k y) (getD (loop .directions) (y * S + x) 0))
+          (rows-left W S (λ (x n old : ℕ). max old (new x n)) y past (loop .inv .1) (y * S + x) (omega arith)) e),
     )
 
 same-length : tie.Need-same-length Inv-loop μ-loop
-same-length c = c .before .before .loop .inv .2 .holders .same
+same-length c = c .before .before .loop .inv .1 .same
 
 same-length-2 : tie.Need-same-length-2 Inv-loop μ-loop
 same-length-2 c = c .before .before .loop .inv .2 .same
 
 returns : tie.Need-returns Inv-loop μ-loop
-returns c = claimed-end (c .before .before .loop .inv .2) (omega arith)
+returns c = record { raised = rows-end _ _ _ _ _ (c .before .before .loop .inv .1) (omega arith); holders = rows-end _ _ _ _ _ (c .before .before .loop .inv .2) (omega arith) }
 
 pub claim-rows-spec : {M : Type 1} → statement M
 claim-rows-spec =
@@ -109,18 +84,9 @@ claim-rows-spec =
     Inv-loop
     μ-loop
     loop-holds
-    mul-from
-    sub-copy
-    part-copy-start
-    part-copy-end
-    slice-aggregate-copy
-    copy-requires
-    array-share-prefix-row
-    slice-aggregate-claim-row
-    sub-claim-row
-    part-claim-row-start
-    part-claim-row-end
-    claim-row-requires
+    mul-claim
+    mul-claim-2
+    claim-requires
     add-y
     loop-less
     loop-again

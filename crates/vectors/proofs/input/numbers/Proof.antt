@@ -1,14 +1,14 @@
--- The thirteen numbers fill the array.
+-- The fourteen numbers fill the array.
 use Prim.Native.Nat.{_-_, _≤_}
 use borrow.Author.Needs.{needs}
 use Rattle.vectors.proofs.input.numbers.Statement.{statement}
 use Rattle.vectors.proofs.input.numbers.Tie as tie
 
 abbrev Inv-loop : tie.InvT-loop
-Inv-loop text from fields₀ at₀ i₀ fields at i = i ≤ 13
+Inv-loop text from fields₀ at₀ i₀ fields at i = i ≤ 14
 
 abbrev μ-loop : tie.MeasureT-loop
-μ-loop text from fields₀ at₀ i₀ fields at i = 13 - i
+μ-loop text from fields₀ at₀ i₀ fields at i = 14 - i
 
 loop-holds : tie.Need-loop-holds Inv-loop μ-loop
 loop-holds c = search needs
