@@ -1,6 +1,6 @@
 -- Values put back to a line of a frame, pixel by pixel.
 --   LineSet                    the pixels of a line are set, and nothing else
---   put-line, held-line        what values put to the line's places, and holders named there, set
+--   put-line                   what values put to the line's places set
 --   claim-raises, claim-names  what a claim leaves that is made
 -- Assumes nothing.
 use mathlib.Core.Path.{_≡_, sym, ap, ap₂, _∙_, subst}
@@ -22,9 +22,8 @@ use Rattle.frame.proofs.Spots.{index-in}
 use Rattle.frame.proofs.ByLines.{map-at}
 use Rattle.frame.proofs.Alongs.{row-ends}
 use Rattle.gathering.specs.Scattering.{put}
-use Rattle.gathering.specs.Claiming.{claims, held, claimFits, ClaimsLine}
+use Rattle.gathering.specs.Claiming.{claims, claimFits, ClaimsLine}
 use Rattle.gathering.proofs.Puts.{put-length, put-off, put-at}
-use Rattle.gathering.proofs.Helds.{held-length, held-off, held-at}
 use Rattle.gathering.proofs.Claimings.{claim-fits}
 
 -- g′ is g with F x y at each pixel (x, y) of line k
@@ -72,29 +71,16 @@ module _ (sh : Shape) (d : Direction) (ok : Accepted sh d) (k : ℤ) where
       }
 
   module _ (vs g : List ℕ) (fits : needed sh ≤ length g) (enough : length (pixels sh d k) ≤ length vs) where
-    pub put-line : (op : ℕ → ℕ → ℕ)
-        → LineSet sh d k (λ (x y : ℕ). op (getD g (place sh (at x y)) 0) (getD vs (indexIn (at x y) (pixels sh d k)) 0)) g (put op (map (place sh) (pixels sh d k)) vs g)
+    pub put-line : (op : ℕ → ℕ → ℕ → ℕ)
+        → LineSet sh d k (λ (x y : ℕ). op (place sh (at x y)) (getD g (place sh (at x y)) 0) (getD vs (indexIn (at x y) (pixels sh d k)) 0)) g (put op (map (place sh) (pixels sh d k)) vs g)
     put-line op =
         let ps = map (place sh) (pixels sh d k) in
         line-set _ g (put op ps vs g) (put-length op ps vs g) (put-off op ps vs g)
         (λ x y h l e.
         let at-line = stands sh d k x y h l e in
         let j = indexIn (at x y) (pixels sh d k) in
-        subst (λ (i : ℕ). getD (put op ps vs g) i 0 ≡ op (getD g i 0) (getD vs j 0)) (at-line .1)
+        subst (λ (i : ℕ). getD (put op ps vs g) i 0 ≡ op i (getD g i 0) (getD vs j 0)) (at-line .1)
         (put-at op ps vs g (line-once sh d ok k) j (omega (arith, at-line .0, length-map (pixels sh d k) (place sh))) (omega (arith, at-line .0))
-        (rw (at-line .1) (inside (length g) x y fits h l))))
-
-    pub held-line : (n : ℕ) (best : List ℕ)
-        → LineSet sh d k (λ (x y : ℕ). claims (getD best (place sh (at x y)) 0) n (getD vs (indexIn (at x y) (pixels sh d k)) 0) (getD g (place sh (at x y)) 0))
-        g (held n (map (place sh) (pixels sh d k)) vs best g)
-    held-line n best =
-        let ps = map (place sh) (pixels sh d k) in
-        line-set _ g (held n ps vs best g) (held-length n best ps vs g) (held-off n best ps vs g)
-        (λ x y h l e.
-        let at-line = stands sh d k x y h l e in
-        let j = indexIn (at x y) (pixels sh d k) in
-        subst (λ (i : ℕ). getD (held n ps vs best g) i 0 ≡ claims (getD best i 0) n (getD vs j 0) (getD g i 0)) (at-line .1)
-        (held-at n best ps vs g (line-once sh d ok k) j (omega (arith, at-line .0, length-map (pixels sh d k) (place sh))) (omega (arith, at-line .0))
         (rw (at-line .1) (inside (length g) x y fits h l))))
 
 -- ---- a claim that is made
@@ -105,7 +91,7 @@ module _ (sh : Shape) (d : Direction) (ok : Accepted sh d) (k : ℤ) (n : ℕ) (
   fitted = claim-fits vs n sh d k best g ok enough room fits
 
   pub claim-raises : LineSet sh d k (λ (x y : ℕ). max (getD best (place sh (at x y)) 0) (getD vs (indexIn (at x y) (pixels sh d k)) 0)) best best′
-  claim-raises = subst (LineSet sh d k _ best) (sym (rw fitted at (p .raises))) (put-line sh d ok k vs best room enough max)
+  claim-raises = subst (LineSet sh d k _ best) (sym (rw fitted at (p .raises))) (put-line sh d ok k vs best room enough (λ (p old new : ℕ). max old new))
 
   pub claim-names : LineSet sh d k (λ (x y : ℕ). claims (getD best (place sh (at x y)) 0) n (getD vs (indexIn (at x y) (pixels sh d k)) 0) (getD g (place sh (at x y)) 0)) g g′
-  claim-names = subst (LineSet sh d k _ g) (sym (rw fitted at (p .names))) (held-line sh d ok k vs g fits enough n best)
+  claim-names = subst (LineSet sh d k _ g) (sym (rw fitted at (p .names))) (put-line sh d ok k vs g fits enough (λ (p old new : ℕ). claims (getD best p 0) n new old))

@@ -1,6 +1,6 @@
 -- The places of a line, one after the other along its walk.
 --   places, places-next, places-fresh    the bytes of a line's first pixels; one more, which is none of them
---   put-more, held-more                  one more value put, and one more holder named
+--   put-more                             one more value put
 -- Assumes nothing.
 use mathlib.Core.Path.{_≡_, sym, ap, _∙_}
 use mathlib.Core.List.{List, [], _∷_, _++_, List·Memᴰ, List·Memᴰ·eq-of-singleton}
@@ -17,9 +17,7 @@ use Rattle.frame.specs.Sweep.{cell, Apart}
 use Rattle.frame.specs.Span.{Spans}
 use Rattle.frame.proofs.Partition.{same-cell}
 use Rattle.gathering.specs.Scattering.{put}
-use Rattle.gathering.specs.Claiming.{claims, held}
 use Rattle.gathering.proofs.Puts.{put-next}
-use Rattle.gathering.proofs.Helds.{held-next}
 
 -- the bytes of the first n pixels of line u, whose major coordinates are those from `from` on
 abbrev pub places : Sweep → ℕ → ℕ → ℕ → List ℕ
@@ -40,22 +38,11 @@ module _ (s : Sweep) (u from i : ℕ) where
       let once = same-cell s far u u (from + i) (from + a .i) (omega (arith, w .fits)) (omega (arith, w .fits, a .below)) (w .inside (from + i) (omega arith) (omega arith)) (w .inside (from + a .i) (omega arith) (omega (arith, a .below))) same .0 in
       omega (arith, once, a .below)
 
-pub put-more : (op : ℕ → ℕ → ℕ) (vs f : List ℕ) (s : Sweep) (u from i : ℕ) → i < length vs
-    → set (put op (places s u from i) vs f) (cell s u (from + i)) (op (getD (put op (places s u from i) vs f) (cell s u (from + i)) 0) (getD vs i 0))
+pub put-more : (op : ℕ → ℕ → ℕ → ℕ) (vs f : List ℕ) (s : Sweep) (u from i : ℕ) → i < length vs
+    → set (put op (places s u from i) vs f) (cell s u (from + i)) (op (cell s u (from + i)) (getD (put op (places s u from i) vs f) (cell s u (from + i)) 0) (getD vs i 0))
     ≡ put op (places s u from (i + 1)) vs f
 put-more op vs f s u from i h =
     let n = places-count s u from i in
-    ap (λ (k : ℕ). set (put op (places s u from i) vs f) (cell s u (from + i)) (op (getD (put op (places s u from i) vs f) (cell s u (from + i)) 0) (getD vs k 0))) (sym n)
+    ap (λ (k : ℕ). set (put op (places s u from i) vs f) (cell s u (from + i)) (op (cell s u (from + i)) (getD (put op (places s u from i) vs f) (cell s u (from + i)) 0) (getD vs k 0))) (sym n)
     ∙ sym (put-next op (places s u from i) vs f (cell s u (from + i)) (omega arith))
     ∙ ap (λ (cs : List ℕ). put op cs vs f) (sym (places-next s u from i))
-
-pub held-more : (n : ℕ) (best vs g : List ℕ) (s : Sweep) (u from i : ℕ) → i < length vs
-    → (let h = held n (places s u from i) vs best g in
-    set h (cell s u (from + i)) (claims (getD best (cell s u (from + i)) 0) n (getD vs i 0) (getD h (cell s u (from + i)) 0)))
-    ≡ held n (places s u from (i + 1)) vs best g
-held-more n best vs g s u from i l =
-    let k = places-count s u from i in
-    let h = held n (places s u from i) vs best g in
-    ap (λ (k : ℕ). set h (cell s u (from + i)) (claims (getD best (cell s u (from + i)) 0) n (getD vs k 0) (getD h (cell s u (from + i)) 0))) (sym k)
-    ∙ sym (held-next n best (places s u from i) vs g (cell s u (from + i)) (omega arith))
-    ∙ ap (λ (ps : List ℕ). held n ps vs best g) (sym (places-next s u from i))

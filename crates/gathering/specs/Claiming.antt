@@ -3,13 +3,13 @@
 --   raised ps vs best           best with, at each of the places ps in order, the brighter of what stood there and the value of vs
 --   held n ps vs best g         g with, at each of the places ps in order, who holds that pixel against the value of vs
 --   claimFits sh d k size room bytes    the test: size values, a frame of room bytes for the best, and one of `bytes` bytes for the holders
--- Laws: gathering/proofs/Helds, PutLines.
+-- Laws: gathering/proofs/Claimings, PutLines.
 use mathlib.Core.Path.{_≡_}
 use mathlib.Core.Bool.{Bool, cond, _&&_}
-use mathlib.Core.List.{List, [], _∷_, map}
+use mathlib.Core.List.{List, map}
 use Prim.Native.Nat.{ℕ, max}
 use lib.Dec.{leb, ltb}
-use lib.ListN.{length, getD, set}
+use lib.ListN.{length, getD}
 use lib.IntN.{ℤ}
 use Rattle.frame.specs.declared.direction.Direction.{Direction}
 use Rattle.frame.specs.declared.shape.Shape.{Shape}
@@ -22,12 +22,10 @@ abbrev pub claims : ℕ → ℕ → ℕ → ℕ → ℕ
 claims best n new old = cond (ltb best new) n old
 
 abbrev pub raised : List ℕ → List ℕ → List ℕ → List ℕ
-raised ps vs best = put max ps vs best
+raised ps vs best = put (λ (p old new : ℕ). max old new) ps vs best
 
 abbrev pub held : ℕ → List ℕ → List ℕ → List ℕ → List ℕ → List ℕ
-held n [] vs best g = g
-held n (p ∷ ps) [] best g = g
-held n (p ∷ ps) (v ∷ vs) best g = held n ps vs best (set g p (claims (getD best p 0) n v (getD g p 0)))
+held n ps vs best g = put (λ (p old new : ℕ). claims (getD best p 0) n new old) ps vs g
 
 abbrev pub claimFits : Shape → Direction → ℤ → ℕ → ℕ → ℕ → Bool
 claimFits sh d k size room bytes =

@@ -1,5 +1,5 @@
 -- The call `scatter`, the way back from gathering: which rules it checks, and what it leaves.
---   put op cs vs f    f with, at each of the places cs in order, op of what stood there and the value of vs
+--   put op cs vs f    f with, at each of the places cs in order, op of the place, what stood there and the value of vs
 --   stored cs vs f    f with the values vs stored at the places cs, in order
 -- Laws: gathering/proofs/Puts, PutLines.
 use mathlib.Core.Path.{_≡_}
@@ -17,13 +17,13 @@ use Rattle.frame.specs.Direction.{isDirection}
 use Rattle.frame.specs.Shape.{isFrame, needed}
 use Rattle.frame.specs.Lines.{pixels, noLine, place}
 
-abbrev pub put : (ℕ → ℕ → ℕ) → List ℕ → List ℕ → List ℕ → List ℕ
+abbrev pub put : (ℕ → ℕ → ℕ → ℕ) → List ℕ → List ℕ → List ℕ → List ℕ
 put op [] vs f = f
 put op (c ∷ cs) [] f = f
-put op (c ∷ cs) (v ∷ vs) f = put op cs vs (set f c (op (getD f c 0) v))
+put op (c ∷ cs) (v ∷ vs) f = put op cs vs (set f c (op c (getD f c 0) v))
 
 abbrev pub stored : List ℕ → List ℕ → List ℕ → List ℕ
-stored cs vs f = put (λ (old new : ℕ). new) cs vs f
+stored cs vs f = put (λ (c old new : ℕ). new) cs vs f
 
 -- size values to line k of a frame of room bytes
 abbrev pub scatterRules : Shape → Direction → ℤ → ℕ → ℕ → List Rule

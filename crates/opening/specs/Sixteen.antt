@@ -1,4 +1,4 @@
--- The call `highest`, of 'one call with two destinations': which rules it checks, and what it leaves.
+-- The call `highest` ('one call with two destinations'): which rules it checks, and what it leaves.
 use mathlib.Core.Path.{_≡_}
 use mathlib.Core.Bool.{not}
 use mathlib.Core.List.{List, [], _∷_}

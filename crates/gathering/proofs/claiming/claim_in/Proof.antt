@@ -9,7 +9,7 @@ use Rattle.frame.specs.Sweep.{cell, Reach}
 use Rattle.frame.proofs.Walks.{cell-reach}
 use Rattle.gathering.specs.Claiming.{claims, raised, held}
 use Rattle.gathering.proofs.Puts.{put-off}
-use Rattle.gathering.proofs.Walks.{places, places-fresh, put-more, held-more}
+use Rattle.gathering.proofs.Walks.{places, places-fresh, put-more}
 use borrow.Author.Needs.{needs}
 use Rattle.gathering.proofs.claiming.claim_in.Statement.{statement}
 use Rattle.gathering.proofs.claiming.claim_in.Tie as tie
@@ -65,7 +65,7 @@ old-is c =
     let pre = c .before .before .before .before .before .before .pre in
     let l = c .before .before .loop in
     ap₂ (λ (g : List ℕ) (n : ℕ). getD g n 0) (l .inv .3) (c .cell-of .ensures)
-    ∙ put-off max (places (a .s) (a .t .index) (a .t .from) (l .i)) (a .values .now) (a .best .now) (cell (a .s) (a .t .index) (a .t .from + l .i))
+    ∙ put-off (λ (p old new : ℕ). max old new) (places (a .s) (a .t .index) (a .t .from) (l .i)) (a .values .now) (a .best .now) (cell (a .s) (a .t .index) (a .t .from + l .i))
     (places-fresh (a .s) (a .t .index) (a .t .from) (l .i) (pre .1) (pre .4) (c .before .loop-test .taken))
 
 slice-read-old : tie.Need-slice-read-old Inv-loop μ-loop
@@ -109,10 +109,10 @@ loop-again c =
       length-set (l .holders) (at .result) (holder .result) ∙ l .inv .2,
       ap (set (l .best) (at .result)) (c .brighter .ensures)
           ∙ ap₂ (λ (g : List ℕ) (n : ℕ). set g n (max (getD g n 0) value)) (l .inv .3) (at .ensures)
-          ∙ put-more max (a .values .now) (a .best .now) (a .s) (a .t .index) (a .t .from) (l .i) enough,
+          ∙ put-more (λ (p old new : ℕ). max old new) (a .values .now) (a .best .now) (a .s) (a .t .index) (a .t .from) (l .i) enough,
       ap (set (l .holders) (at .result)) (holder .ensures ∙ ap (λ (old : ℕ). claims old (a .number) value (getD (l .holders) (at .result) 0)) (old-is (c .before .before .before .before .before)))
           ∙ ap₂ (λ (g : List ℕ) (n : ℕ). set g n (claims (getD (a .best .now) (cell (a .s) (a .t .index) (a .t .from + l .i)) 0) (a .number) value (getD g n 0))) (l .inv .4) (at .ensures)
-          ∙ held-more (a .number) (a .best .now) (a .values .now) (a .holders .now) (a .s) (a .t .index) (a .t .from) (l .i) enough,
+          ∙ put-more (λ (p old new : ℕ). claims (getD (a .best .now) p 0) (a .number) new old) (a .values .now) (a .holders .now) (a .s) (a .t .index) (a .t .from) (l .i) enough,
     )
 
 same-length : tie.Need-same-length Inv-loop μ-loop

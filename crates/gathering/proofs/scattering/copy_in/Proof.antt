@@ -67,7 +67,7 @@ loop-again c =
       omega arith,
       length-set (l .dst) (at .result) value ∙ l .inv .1,
       ap₂ (λ (g : List ℕ) (n : ℕ). set g n value) (l .inv .2) (at .ensures)
-          ∙ put-more (λ (old new : ℕ). new) (a .src .now) (a .dst .now) (a .s) (a .t .index) (a .t .from) (l .i) (omega (arith, pre .3)),
+          ∙ put-more (λ (c old new : ℕ). new) (a .src .now) (a .dst .now) (a .s) (a .t .index) (a .t .from) (l .i) (omega (arith, pre .3)),
     )
 
 same-length : tie.Need-same-length Inv-loop μ-loop
