@@ -3,25 +3,21 @@
 #include "directions.h"
 #include "picture.h"
 
-template <class Pixel> struct Frame {
+struct Frame {
     long width, height, stride;
-    Picture<Pixel> pixels;
+    Picture bytes;
 
-    Frame(long width, long height, long stride, Pixel fill) : width(width), height(height), stride(stride), pixels((height - 1) * stride + width, fill) {}
-    Pixel &at(long x, long y) { return pixels[y * stride + x]; }
-    Pixel at(long x, long y) const { return pixels[y * stride + x]; }
-    double area() const { return double(width) * height; }
+    Frame(long width, long height, long stride, uint8_t fill) : width(width), height(height), stride(stride), bytes((height - 1) * stride + width, fill) {}
+    uint8_t &at(long x, long y) { return bytes[y * stride + x]; }
+    uint8_t at(long x, long y) const { return bytes[y * stride + x]; }
+    double pixels() const { return double(width) * height; }
 };
 
-template <class Pixel> Frame<Pixel> framed(const Picture<Pixel> &picture, long width, long height, long stride)
+inline Frame blurred_frame(long width, long height, long stride)
 {
-    Frame<Pixel> frame(width, height, stride, 0);
+    Frame frame(width, height, stride, 0);
+    Picture picture = blurred_noise(width, height);
     for (long y = 0; y < height; y++)
-        std::copy_n(&picture[y * width], width, &frame.pixels[y * stride]);
+        std::copy_n(&picture[y * width], width, &frame.bytes[y * stride]);
     return frame;
-}
-
-template <class Pixel> Frame<Pixel> blurred_frame(long width, long height, long stride)
-{
-    return framed(blurred_noise<Pixel>(width, height), width, height, stride);
 }

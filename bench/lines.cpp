@@ -11,8 +11,7 @@ static const double TARGET = 8;
 
 int main()
 {
-    Picture<uint8_t> picture = blurred_noise<uint8_t>(N, N), ours(N * N), theirs(N * N), eroded(N * N);
-    Scratch scratch(8 * N);
+    Picture picture = blurred_noise(N, N), ours(N * N), theirs(N * N), eroded(N * N), scratch(8 * N);
     bool good = true;
     std::printf("\n## Lines\n\n%ld lines of %ld pixels, nanoseconds a pixel, best of 15; the last column says how many times as long as `open_line` the stack takes.\n\n", N, N);
     std::printf("| length | erode | dilate | open_line | stack in C | ratio |\n|---|---|---|---|---|---|\n");

@@ -5,7 +5,7 @@
 #include <vector>
 
 // The lines of a frame: each line's number, and the places of its pixels in line order.
-template <class Pixel> std::map<int64_t, std::vector<long>> naive_lines(const Frame<Pixel> &frame, Direction d)
+inline std::map<int64_t, std::vector<long>> naive_lines(const Frame &frame, Direction d)
 {
     std::map<int64_t, std::vector<long>> lines;
     int64_t s = is_falling(d) ? -1 : 1;
@@ -17,17 +17,17 @@ template <class Pixel> std::map<int64_t, std::vector<long>> naive_lines(const Fr
 }
 
 // At each pixel the highest, over all windows of so many pixels that hold it and lie wholly on its line, of the windows' darkest values; 0 where none fits.
-template <class Pixel> void naive_open(const Frame<Pixel> &src, Direction d, long pixels, Frame<Pixel> &dst)
+inline void naive_open(const Frame &src, Direction d, long pixels, Frame &dst)
 {
     for (auto &[number, line] : naive_lines(src, d)) {
         for (long place : line)
-            dst.pixels[place] = 0;
+            dst.bytes[place] = 0;
         for (long from = 0; from + pixels <= long(line.size()); from++) {
-            Pixel darkest = src.pixels[line[from]];
+            uint8_t darkest = 255;
             for (long i = from; i < from + pixels; i++)
-                darkest = std::min(darkest, src.pixels[line[i]]);
+                darkest = std::min(darkest, src.bytes[line[i]]);
             for (long i = from; i < from + pixels; i++)
-                dst.pixels[line[i]] = std::max(dst.pixels[line[i]], darkest);
+                dst.bytes[line[i]] = std::max(dst.bytes[line[i]], darkest);
         }
     }
 }

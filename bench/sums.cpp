@@ -11,23 +11,23 @@ static const double TARGET = 1.3; // along, 64 bins
 static const Direction DIRECTIONS[] = {{1, 0}, {1, 1}, {0, 1}};
 using Sums = std::vector<uint64_t>;
 
-static bool sum(const Frame<uint8_t> &src, Direction d, Sums &sums, Scratch &scratch)
+static bool sum(const Frame &src, Direction d, Sums &sums, Picture &scratch)
 {
-    return c_sums_of_frame(src.pixels.data(), src.pixels.size(), src.width, src.height, src.stride, d.p, d.q, sums.data(), sums.size(), scratch.data(), scratch.size()).number == 0;
+    return c_sums_of_frame(src.bytes.data(), src.bytes.size(), src.width, src.height, src.stride, d.p, d.q, sums.data(), sums.size(), scratch.data(), scratch.size()).number == 0;
 }
 
 // The sum for a length: the total of the pixels opened with as many as it stands for.
-static uint64_t naive_sum(const Frame<uint8_t> &src, Direction d, long length)
+static uint64_t naive_sum(const Frame &src, Direction d, long length)
 {
-    Frame<uint8_t> opened(src.width, src.height, src.stride, 0);
+    Frame opened(src.width, src.height, src.stride, 0);
     naive_open(src, d, pixels_for(d, length), opened);
-    return std::accumulate(opened.pixels.begin(), opened.pixels.end(), uint64_t(0));
+    return std::accumulate(opened.bytes.begin(), opened.bytes.end(), uint64_t(0));
 }
 
 static bool right_on_small()
 {
-    Frame<uint8_t> src = blurred_frame<uint8_t>(50, 40, 53);
-    Scratch scratch(8 * 50);
+    Frame src = blurred_frame(50, 40, 53);
+    Picture scratch(8 * 50);
     for (Direction d : SIXTEEN)
         for (size_t bins : {1, 4, 5, 7, 60}) { // on the diagonals 4 and 5 stand for the same count of pixels
             Sums ours(bins + 1), defined(bins + 1);
@@ -43,15 +43,15 @@ static bool right_on_small()
 int main()
 {
     bool same = right_on_small(), met = true;
-    Frame<uint8_t> src = blurred_frame<uint8_t>(1024, 1024, 1024);
-    Scratch scratch(8 * 1024);
+    Frame src = blurred_frame(1024, 1024, 1024);
+    Picture scratch(8 * 1024);
     std::printf("\n## Size sums\n\n`sums_of_frame` of a 1,024 x 1,024 frame, with bins by length as measured along a row: nanoseconds a pixel, best of 15; the last column says how many times as long as C it takes.\n\n");
     std::printf("| direction | bins | library | C | times C |\n|---|---|---|---|---|\n");
     for (Direction d : DIRECTIONS)
         for (size_t bins : {1, 64, 4096}) {
             Sums ours(bins + 1), theirs(bins + 1);
-            double o = nanoseconds_a_pixel(src.area(), 15, 2, [&] { sum(src, d, ours, scratch); });
-            double c = nanoseconds_a_pixel(src.area(), 15, 2, [&] { stack_sums(src.pixels.data(), src.width, src.height, src.stride, d.p, d.q, theirs.data(), bins); });
+            double o = nanoseconds_a_pixel(src.pixels(), 15, 2, [&] { sum(src, d, ours, scratch); });
+            double c = nanoseconds_a_pixel(src.pixels(), 15, 2, [&] { stack_sums(src.bytes.data(), src.width, src.height, src.stride, d.p, d.q, theirs.data(), bins); });
             same = same && ours == theirs;
             std::printf("| (%ld, %ld) | %4zu | %6.2f | %6.2f | %5.2f |\n", long(d.p), long(d.q), bins, o, c, o / c);
             if (d.q == 0 && bins == 64)

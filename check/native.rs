@@ -1,6 +1,5 @@
-// Calls the library as a host does, linked from its archives, and compares with the referee's definitions: fibre_open_frame with 8-bit pixels, fibre_open_frame16 and c_highest16 with 16-bit pixels.
-// Random frames, directions and lengths, every refusal with its figure. Each block stands between guards, which must not change; a refused call must leave every block alone, a done one all but the
-// pixels of its destinations and its scratch.
+// Calls fibre_open_frame as a host does, linked from the archive, and compares with the referee's definitions: random frames, directions and lengths, every refusal with its figure.
+// Each block stands between guard bytes, which must not change; a refused call must leave every byte alone, a done one all but the pixels of its destination and its scratch.
 
 #[path = "referee/definitions.rs"]
 #[allow(dead_code)]
@@ -12,52 +11,25 @@ mod draw;
 #[allow(dead_code)]
 mod refusals;
 
-use definitions::{Direction, Pixel, Shape, NUMBERED};
-use draw::{Draws, KINDS, KINDS_OF_BYTES, LEVELS16, LEVELS8};
-
-/// What c_highest16 hands back.
-#[repr(C)]
-struct Answer {
-    number: u32,
-    figure: u64,
-}
+use definitions::{Direction, Shape, NUMBERED};
+use draw::Draws;
 
 extern "C" {
     fn fibre_open_frame(
         src: *const u8, src_bytes: usize, width: usize, height: usize, stride: usize, p: i64, q: i64, length: usize,
         dst: *mut u8, dst_bytes: usize, scratch: *mut u8, scratch_bytes: usize,
     ) -> u64;
-    fn fibre_open_frame16(
-        src: *const u16, src_pixels: usize, width: usize, height: usize, stride: usize, p: i64, q: i64, length: usize,
-        dst: *mut u16, dst_pixels: usize, scratch: *mut u8, scratch_bytes: usize,
-    ) -> u64;
-    fn c_highest16(
-        src: *const u16, src_pixels: usize, width: usize, height: usize, stride: usize, length: usize,
-        dst: *mut u16, dst_pixels: usize, directions: *mut u8, directions_bytes: usize, scratch: *mut u8, scratch_bytes: usize,
-    ) -> Answer;
 }
 
-/// The entries that are called.
-#[derive(Clone, Copy, Debug, PartialEq)]
-enum Entry {
-    Open8,
-    Open16,
-    Highest16,
-}
-
-/// Each entry by its name in C, and how many calls of it are made.
-const ENTRIES: [(Entry, &str, u64); 3] = [(Entry::Open8, "fibre_open_frame", 100_000), (Entry::Open16, "fibre_open_frame16", 100_000), (Entry::Highest16, "c_highest16", 10_000)];
-
-/// The pixels or bytes on either side of a block.
+const CALLS: u64 = 100_000;
 const GUARD: usize = 32;
 
-/// The most pixels that a block has: calls that would need more are made with none, and refused.
+/// The most bytes that a block has: calls that would need more are made with none, and refused.
 const MOST: u64 = 1 << 16;
 
-/// The arguments of a call; the last four are the sizes of its blocks.
+/// The arguments of a call; the last three are the sizes of its blocks.
 #[derive(Clone, Copy, Debug)]
 struct Job {
-    entry: Entry,
     kind: u64,
     width: u64,
     height: u64,
@@ -67,7 +39,6 @@ struct Job {
     length: u64,
     src: u64,
     dst: u64,
-    directions: u64,
     scratch: u64,
 }
 
@@ -78,17 +49,6 @@ impl Job {
 
     fn direction(&self) -> Direction {
         Direction { p: self.p, q: self.q }
-    }
-
-    fn levels(&self) -> u64 {
-        if self.entry == Entry::Open8 { LEVELS8 } else { LEVELS16 }
-    }
-
-    fn refusal(&self) -> Option<refusals::Refusal> {
-        match self.entry {
-            Entry::Highest16 => refusals::highest(self.shape(), self.length, self.src, self.dst, self.directions, self.scratch),
-            _ => refusals::open_frame(self.shape(), self.direction(), self.length, self.src, self.dst, self.scratch),
-        }
     }
 }
 
@@ -113,15 +73,12 @@ fn push(job: &mut Job, draws: &mut Draws) {
     }
 }
 
-/// Lends just what the frame needs or a little more, now and then one pixel or byte less in one of the blocks.
+/// Lends just what the frame needs or a little more, now and then one byte less in one of the blocks.
 fn size(job: &mut Job, draws: &mut Draws) {
-    let need = if job.shape().is_frame() { job.shape().needed() } else { 0 };
+    let need = if job.shape().is_frame() { job.shape().bytes() } else { 0 };
     let need = if need > MOST { 0 } else { need };
     let room = if need > 0 { 8 * job.width.max(job.height) } else { 0 };
     (job.src, job.dst, job.scratch) = (need + draws.below(3), need + draws.below(3), room + draws.below(3));
-    if job.entry == Entry::Highest16 {
-        job.directions = (need + draws.below(3)).saturating_sub((draws.below(12) == 0) as u64);
-    }
     if need > 0 {
         match draws.below(12) {
             0 => job.src = need - 1,
@@ -133,7 +90,7 @@ fn size(job: &mut Job, draws: &mut Draws) {
 }
 
 /// Small frames; one in seven has sides and lengths that reach the first length to mean fewer pixels in each slanted direction that has a number: at (4, 1) that is 35.
-fn job(entry: Entry, i: u64, draws: &mut Draws) -> Job {
+fn job(i: u64, draws: &mut Draws) -> Job {
     let (side, longest) = if i % 7 == 1 { (40, 60) } else { (24, 12) };
     let (width, height) = (draws.within(1, side), draws.within(1, side));
     let (p, q) = match i % 3 {
@@ -141,11 +98,7 @@ fn job(entry: Entry, i: u64, draws: &mut Draws) -> Job {
         _ => NUMBERED[(i % 16) as usize],
     };
     let stride = width + draws.below(4);
-    let kind = match entry {
-        Entry::Open8 => draws.below(KINDS),
-        _ => (0..KINDS).chain(KINDS_OF_BYTES).nth(draws.below(KINDS + 4) as usize).unwrap(),
-    };
-    let mut job = Job { entry, kind, width, height, stride, p, q, length: draws.within(1, longest), src: 0, dst: 0, directions: 0, scratch: 0 };
+    let mut job = Job { kind: draws.below(7), width, height, stride, p, q, length: draws.within(1, longest), src: 0, dst: 0, scratch: 0 };
     if i % 5 == 0 {
         push(&mut job, draws);
     }
@@ -153,125 +106,64 @@ fn job(entry: Entry, i: u64, draws: &mut Draws) -> Job {
     job
 }
 
-/// The blocks of a call, each between guards of noise.
-#[derive(Clone, PartialEq)]
-struct Blocks {
-    src: Vec<Pixel>,
-    dst: Vec<Pixel>,
-    directions: Vec<u8>,
-    scratch: Vec<u8>,
+/// A block of bytes of a kind between guards.
+fn block(bytes: u64, kind: u64, seed: u64) -> Vec<u8> {
+    [draw::bytes(GUARD, 0, seed), draw::bytes(bytes as usize, kind, seed), draw::bytes(GUARD, 0, seed + 1)].concat()
 }
 
-fn pixels(job: &Job, count: u64, kind: u64, seed: u64) -> Vec<Pixel> {
-    let guard = |seed| draw::pixels(job.levels(), GUARD, 0, seed);
-    [guard(seed), draw::pixels(job.levels(), count as usize, kind, seed), guard(seed + 1)].concat()
-}
-
-fn bytes(count: u64, seed: u64) -> Vec<u8> {
-    draw::bytes(count as usize + 2 * GUARD, seed)
-}
-
-fn blocks(job: &Job, seed: u64) -> Blocks {
-    Blocks { src: pixels(job, job.src, job.kind, seed), dst: pixels(job, job.dst, 0, seed + 2), directions: bytes(job.directions, seed + 6), scratch: bytes(job.scratch, seed + 4) }
-}
-
-/// The 8-bit call: the pixels pass as bytes, and come back from them.
-fn open8(job: &Job, b: &mut Blocks) -> u64 {
-    let narrow = |pixels: &[Pixel]| -> Vec<u8> { pixels.iter().map(|&pixel| pixel as u8).collect() };
-    let wide = |bytes: Vec<u8>| -> Vec<Pixel> { bytes.iter().map(|&byte| byte as Pixel).collect() };
-    let (src, mut dst) = (narrow(&b.src), narrow(&b.dst));
-    let got = unsafe {
-        fibre_open_frame(
-            src[GUARD..].as_ptr(), job.src as usize, job.width as usize, job.height as usize, job.stride as usize, job.p, job.q, job.length as usize,
-            dst[GUARD..].as_mut_ptr(), job.dst as usize, b.scratch[GUARD..].as_mut_ptr(), job.scratch as usize,
-        )
-    };
-    (b.src, b.dst) = (wide(src), wide(dst));
-    got
-}
-
-fn open16(job: &Job, b: &mut Blocks) -> u64 {
-    unsafe {
-        fibre_open_frame16(
-            b.src[GUARD..].as_ptr(), job.src as usize, job.width as usize, job.height as usize, job.stride as usize, job.p, job.q, job.length as usize,
-            b.dst[GUARD..].as_mut_ptr(), job.dst as usize, b.scratch[GUARD..].as_mut_ptr(), job.scratch as usize,
-        )
-    }
-}
-
-fn highest16(job: &Job, b: &mut Blocks) -> u64 {
-    let answer = unsafe {
-        c_highest16(
-            b.src[GUARD..].as_ptr(), job.src as usize, job.width as usize, job.height as usize, job.stride as usize, job.length as usize,
-            b.dst[GUARD..].as_mut_ptr(), job.dst as usize, b.directions[GUARD..].as_mut_ptr(), job.directions as usize, b.scratch[GUARD..].as_mut_ptr(), job.scratch as usize,
-        )
-    };
-    ((answer.number as u64) << 32) + answer.figure
+fn lent(block: &[u8]) -> &[u8] {
+    &block[GUARD..block.len() - GUARD]
 }
 
 /// The call through the archive. The blocks are those of the job, so that the sizes are true.
-fn call(job: &Job, blocks: &mut Blocks) -> u64 {
-    match job.entry {
-        Entry::Open8 => open8(job, blocks),
-        Entry::Open16 => open16(job, blocks),
-        Entry::Highest16 => highest16(job, blocks),
-    }
-}
-
-/// What a done call makes of the blocks.
-fn done(job: &Job, b: &mut Blocks) {
-    let src = &b.src[GUARD..];
-    match job.entry {
-        Entry::Highest16 => definitions::sixteen(src, job.shape(), job.length, &mut b.dst[GUARD..], &mut b.directions[GUARD..]),
-        _ => definitions::open_frame(src, job.shape(), job.direction(), job.length, &mut b.dst[GUARD..]),
+fn call(job: &Job, src: &[u8], dst: &mut [u8], scratch: &mut [u8]) -> u64 {
+    let (s, d, t) = (&src[GUARD..], &mut dst[GUARD..], &mut scratch[GUARD..]);
+    let (width, height, stride, length) = (job.width as usize, job.height as usize, job.stride as usize, job.length as usize);
+    unsafe {
+        fibre_open_frame(
+            s.as_ptr(), job.src as usize, width, height, stride, job.p, job.q, length,
+            d.as_mut_ptr(), job.dst as usize, t.as_mut_ptr(), job.scratch as usize,
+        )
     }
 }
 
 /// The refusal's number, 0 where the call is done; an error where anything is not as the definitions have it.
 fn compare(job: &Job, seed: u64) -> Result<u64, String> {
-    let mut expected = blocks(job, seed);
-    let mut after = expected.clone();
-    let got = call(job, &mut after);
-    let refusal = job.refusal();
+    let (src, dst, scratch) = (block(job.src, job.kind, seed), block(job.dst, 0, seed + 2), block(job.scratch, 0, seed + 4));
+    let (mut dst_after, mut scratch_after) = (dst.clone(), scratch.clone());
+    let src_before = src.clone();
+    let got = call(job, &src, &mut dst_after, &mut scratch_after);
+    let refusal = refusals::open_frame(job.shape(), job.direction(), job.length, job.src, job.dst, job.scratch);
     let (number, figure) = refusal.unwrap_or((0, 0));
+    let mut expected = dst;
     if refusal.is_none() {
-        done(job, &mut expected);
-        let scratch = GUARD..GUARD + job.scratch as usize;
-        after.scratch[scratch.clone()].copy_from_slice(&expected.scratch[scratch]);
+        definitions::open_frame(lent(&src), job.shape(), job.direction(), job.length, &mut expected[GUARD..]);
+        let end = GUARD + job.scratch as usize;
+        scratch_after[GUARD..end].copy_from_slice(&scratch[GUARD..end]);
     }
-    let wrong = [
-        (got != number * (1 << 32) + figure, "its answer"), (after.src != expected.src, "its source"), (after.dst != expected.dst, "its destination"),
-        (after.directions != expected.directions, "its directions"), (after.scratch != expected.scratch, "its scratch"),
-    ];
+    let wrong = [(got != number * (1 << 32) + figure, "its answer"), (src != src_before, "its source"), (dst_after != expected, "its destination"), (scratch_after != scratch, "its scratch")];
     match wrong.iter().find(|w| w.0) {
         Some((_, what)) => Err(format!("{what} differs; it answered {got:#x}: {job:?}")),
         None => Ok(number),
     }
 }
 
-/// All calls of an entry; the line that is told of them.
-fn compared(entry: Entry, name: &str, calls: u64) -> Result<String, String> {
+fn main() {
     let mut draws = Draws(88_172_645_463_325_252);
     let (mut by_number, mut fewer) = ([0; 8], 0);
-    for i in 0..calls {
-        let job = job(entry, i, &mut draws);
-        let number = compare(&job, i).map_err(|what| format!("{name}: call {i}: {what}"))?;
-        by_number[number as usize] += 1;
-        fewer += (number == 0 && job.direction().pixels_for(job.length) < job.length) as u64;
-    }
-    let refused: Vec<String> = [1, 2, 3, 5, 6, 7].iter().map(|&n| format!("{n}: {}", by_number[n])).collect();
-    let fewer = if entry == Entry::Highest16 { String::new() } else { format!(", {fewer} of them with fewer pixels than the length") };
-    Ok(format!("{name}: {calls} calls as the definitions have them: {} done{fewer}; refused by rule {}", by_number[0], refused.join(", ")))
-}
-
-fn main() {
-    for (entry, name, calls) in ENTRIES {
-        match compared(entry, name, calls) {
-            Ok(told) => println!("check/native: {told}"),
+    for i in 0..CALLS {
+        let job = job(i, &mut draws);
+        match compare(&job, i) {
+            Ok(number) => {
+                by_number[number as usize] += 1;
+                fewer += (number == 0 && job.direction().pixels_for(job.length) < job.length) as u64;
+            }
             Err(what) => {
-                println!("check/native: {what}");
+                println!("check/native: call {i}: {what}");
                 std::process::exit(1);
             }
         }
     }
+    let refused: Vec<String> = [1, 2, 3, 5, 6, 7].iter().map(|&n| format!("{n}: {}", by_number[n])).collect();
+    println!("check/native: {CALLS} calls as the definitions have them: {} done, {fewer} of them with fewer pixels than the length; refused by rule {}", by_number[0], refused.join(", "));
 }

@@ -15,7 +15,7 @@ struct Frame {
     direction: usize,
     width: usize,
     height: usize,
-    pixels: Vec<u16>,
+    pixels: Vec<u8>,
 }
 
 // A decimal number without leading zero, 0 to `most`.
@@ -50,9 +50,8 @@ fn read(input: &[u8]) -> Result<Frame, u32> {
         return Err(9);
     }
     let d = fields(lines[0], b"D", 1, 65535).ok_or(9u32)?[0] as usize;
-    let f = fields(lines[1], b"F", 2, 65535).or_else(|| fields(lines[1], b"F", 3, 65535).filter(|f| f[2] == 16)).ok_or(9u32)?;
+    let f = fields(lines[1], b"F", 2, 65535).ok_or(9u32)?;
     let (width, height) = (f[0] as usize, f[1] as usize);
-    let most = if f.len() == 3 { 65535 } else { 255 };
     if !(1..=4096).contains(&width) || !(1..=4096).contains(&height) {
         return Err(1);
     }
@@ -64,17 +63,17 @@ fn read(input: &[u8]) -> Result<Frame, u32> {
     }
     let mut pixels = Vec::new();
     for line in &lines[2..] {
-        pixels.extend(fields(line, b"R", width, most).ok_or(9u32)?.iter().map(|v| *v as u16));
+        pixels.extend(fields(line, b"R", width, 255).ok_or(9u32)?.iter().map(|v| *v as u8));
     }
     Ok(Frame { direction: d, width, height, pixels })
 }
 
 // The lines of a frame: number and pixels, in ascending number.
-fn lines(f: &Frame) -> Vec<(i64, Vec<u16>)> {
+fn lines(f: &Frame) -> Vec<(i64, Vec<u8>)> {
     let (p, q) = DIRECTIONS[f.direction];
     let s = if (p < 0) != (q < 0) && p != 0 && q != 0 { -1 } else { 1 };
     let (a, b) = (p.abs(), q.abs());
-    let mut all = std::collections::BTreeMap::<i64, Vec<u16>>::new();
+    let mut all = std::collections::BTreeMap::<i64, Vec<u8>>::new();
     let at = |x: usize, y: usize| f.pixels[y * f.width + x];
     if b <= a {
         for x in 0..f.width {
@@ -95,10 +94,10 @@ fn lines(f: &Frame) -> Vec<(i64, Vec<u16>)> {
 }
 
 // A line's stretches in their order: start, end, level, base.
-fn listed(line: &[u16]) -> Vec<(usize, usize, u16, u16)> {
+fn listed(line: &[u8]) -> Vec<(usize, usize, u8, u8)> {
     let mut list = Vec::new();
     for end in 1..=line.len() {
-        let mut level = u16::MAX;
+        let mut level = 255;
         for start in (0..end).rev() {
             level = level.min(line[start]);
             let mut beside = Vec::new();
@@ -117,7 +116,7 @@ fn listed(line: &[u16]) -> Vec<(usize, usize, u16, u16)> {
 }
 
 // The place in the list of the shortest other stretch that encloses the one at `place`: starts no later, ends no earlier. None encloses the whole line, which has its own.
-fn encloser(list: &[(usize, usize, u16, u16)], place: usize) -> usize {
+fn encloser(list: &[(usize, usize, u8, u8)], place: usize) -> usize {
     let (start, end, ..) = list[place];
     let (mut found, mut shortest) = (place, usize::MAX);
     for (other, &(s, e, ..)) in list.iter().enumerate() {
@@ -153,7 +152,7 @@ fn pixels_for(direction: usize, length: i64) -> usize {
 }
 
 // The total of a line's pixels opened with windows of `count` pixels.
-fn sum_for(line: &[u16], count: usize) -> u64 {
+fn sum_for(line: &[u8], count: usize) -> u64 {
     let mut opened = vec![0; line.len()];
     for window in 0..(line.len() + 1).saturating_sub(count) {
         let darkest = *line[window..window + count].iter().min().unwrap();
@@ -203,12 +202,6 @@ fn text(direction: usize, width: usize, height: usize, pixel: &mut dyn FnMut(usi
     out.into_bytes()
 }
 
-// The text of the same levels with a third field 16 on its second line.
-fn widened(text: &[u8]) -> Vec<u8> {
-    let end = text.iter().enumerate().filter(|(_, c)| **c == b'\n').nth(1).unwrap().0;
-    [&text[..end], b"\t16", &text[end..]].concat()
-}
-
 // Pixel i of n: a climb, a fall, a mountain, a valley, a comb, and a saw whose teeth start darker and darker, so that 4,096 pixels have 4,096 stretches.
 const NESTS: [fn(usize, usize) -> usize; 6] = [
     |i, n| 256 * i / n,
@@ -218,28 +211,6 @@ const NESTS: [fn(usize, usize) -> usize; 6] = [
     |i, _| 255 * (i % 2),
     |i, _| if i % 32 == 0 { 127 - i / 32 } else { 128 + i % 32 },
 ];
-
-// Frames of 16 bits: every direction with noise over all levels, of the brightest and about 255, long nests of as many levels as pixels, those of 8 bits brightened, and
-// a full input.
-fn wide_frames(noise: &mut Noise) -> Vec<Vec<u8>> {
-    let mut all = Vec::new();
-    for d in 0..16 {
-        for (least, levels) in [(0, 65536), (65530, 6), (250, 12)] {
-            let (w, h) = (1 + noise.below(16) as usize, 1 + noise.below(16) as usize);
-            all.push(widened(&text(d, w, h, &mut |_| least + noise.below(levels))));
-        }
-    }
-    let climb = |i: usize| 15 + 16 * i as u64;
-    all.push(widened(&text(0, 4096, 1, &mut |i| climb(i))));
-    all.push(widened(&text(8, 1, 4096, &mut |i| climb(4095 - i))));
-    all.push(widened(&text(0, 4096, 1, &mut |i| climb(i.min(4095 - i)))));
-    for nest in NESTS {
-        all.push(widened(&text(0, 4096, 1, &mut |i| 257 * nest(i, 4096) as u64)));
-    }
-    // just 65,536 bytes: 16 of head, 8 rows of 1,365 fields, and all but 16 pixels of five digits
-    all.push(widened(&text(3, 1365, 8, &mut |i| if i < 16 { 9999 } else { 65535 - i as u64 })));
-    all
-}
 
 // Frames: the example, every direction with noise and with runs of few levels, single rows and columns, long nests along, across and aslant, and a full input.
 fn frames(noise: &mut Noise) -> Vec<Vec<u8>> {
@@ -278,24 +249,11 @@ fn odd_inputs() -> Vec<Vec<u8>> {
         "D\t0\nF\t1\t1\nS\t0\n", "D\t0\nF\t1\t1\nR\t\n", "D\t0\nF\t1\t1\nR\n", "D\t0\nF\t1\t1\nR0\n", "D\t0\nF\t1\t1\n\nR\t0\n", "D\t+1\nF\t1\t1\nR\t0\n",
         // two checks broken: size and form before width and height, these before the direction, and that before the rows
         "D\tx\nF\t0\t1\n", "D\t16\nF\t0\t1\nR\n", "D\t16\nF\t1\t4097\nx", "D\t16\nF\t1\t1\nx", "D\t16\nF\t1\t1\n", "D\t70000\nF\t0\t0\n", "D\t16\nF\t4096\t4096\n", "D\t0\nF\t4096\t4096\n",
-        // levels, with a third field 16 and without
-        "D\t0\nF\t1\t1\t16\nR\t0\n", "D\t0\nF\t1\t1\t16\nR\t255\n", "D\t0\nF\t1\t1\t16\nR\t256\n", "D\t0\nF\t1\t1\t16\nR\t65535\n", "D\t0\nF\t1\t1\t16\nR\t65536\n",
-        "D\t0\nF\t1\t1\nR\t65535\n", "D\t0\nF\t1\t1\nR\t65536\n", "D\t0\nF\t1\t1\t16\nR\t0256\n", "D\t0\nF\t1\t1\t16\nR\t131071\n", "D\t0\nF\t2\t1\t16\nR\t256\t65536\n",
-        "D\t0\nF\t2\t2\t16\nR\t256\t255\nR\t65535\t1\n", "D\t0\nF\t2\t2\nR\t255\t255\nR\t256\t1\n",
-        // another third field, or a fourth
-        "D\t0\nF\t1\t1\t8\nR\t0\n", "D\t0\nF\t1\t1\t0\nR\t0\n", "D\t0\nF\t1\t1\t15\nR\t0\n", "D\t0\nF\t1\t1\t17\nR\t0\n", "D\t0\nF\t1\t1\t016\nR\t0\n",
-        "D\t0\nF\t1\t1\t160\nR\t0\n", "D\t0\nF\t1\t1\t32\nR\t0\n", "D\t0\nF\t1\t1\t272\nR\t0\n", "D\t0\nF\t1\t1\t65535\nR\t0\n", "D\t0\nF\t1\t1\t65552\nR\t0\n",
-        "D\t0\nF\t1\t1\t16\t16\nR\t0\n", "D\t0\nF\t1\t1\t16\t\nR\t0\n", "D\t0\nF\t1\t1\t\nR\t0\n", "D\t0\nF\t1\t1\t\t16\nR\t0\n", "D\t0\nF\t1\t1 16\nR\t0\n",
-        "D\t0\nF\t1\t1\t+16\nR\t0\n", "D\t0\nF\t1\t1\t16 \nR\t0\n", "D\t0\nF\t1\t1\t16\r\nR\t0\n", "D\t0\nF\t1\t1\t16", "D\t0\nF\t1\t1\t16\n", "D\t0\nF\t1\t1\t1\n6\nR\t0\n",
-        "D\t0\nF\t1\t16\nR\t0\n", "D\t0\nF\t16\nR\t0\n", "D\t0\t16\nF\t1\t1\nR\t0\n",
-        // the third field before width and height, these before the direction, and that before the rows
-        "D\t16\nF\t0\t1\t8\nR\n", "D\t16\nF\t0\t1\t16\nR\n", "D\t16\nF\t1\t1\t16\nR\t65536\n", "D\t16\nF\t1\t4097\t17\nx",
     ]
     .iter()
     .map(|s| s.as_bytes().to_vec())
     .collect();
     // one byte too many, as a digit, as a byte behind the last line, and many of them
-    all.push(widened(&text(3, 1365, 8, &mut |i| if i < 15 { 9999 } else { 65535 - i as u64 })));
     all.push(text(3, 4000, 8, &mut |i| if i < 1508 { 10 } else { 7 }));
     let mut longer = text(3, 4000, 8, &mut |i| if i < 1507 { 10 } else { 7 });
     longer.push(b'\n');
@@ -341,17 +299,6 @@ fn plain_runs(tally: &mut Tally, run: &str, inputs: &[Vec<u8>]) {
                 compare("with the input in pieces", 7);
                 compare("with the input in pieces", 1);
             }
-        }
-    }
-}
-
-// A line of 8-bit levels is a line of 16-bit levels: with a third field 16 the same is printed.
-fn widened_runs(tally: &mut Tally, run: &str, inputs: &[Vec<u8>]) {
-    for input in inputs {
-        for program in PROGRAMS {
-            let ran = streams::in_pieces(run, program, &widened(input), input.len());
-            let right = ran.ended() && ran.printed == expected(program, input).as_bytes();
-            tally.count("of 8-bit levels as 16-bit ones", right, program, input, "with a third field 16");
         }
     }
 }
@@ -459,15 +406,12 @@ fn main() {
     let mut noise = Noise(1);
     let mut inputs = frames(&mut noise);
     let full = inputs.len() - 1;
-    inputs.extend(wide_frames(&mut noise));
-    let wide = full + 1..inputs.len();
-    assert_eq!((inputs[full].len(), inputs[wide.end - 1].len()), (65536, 65536));
+    assert_eq!(inputs[full].len(), 65536);
     inputs.extend(odd_inputs());
-    let (empty, longer) = (wide.end, inputs.len() - 5);
+    let (empty, longer) = (full + 1, inputs.len() - 5);
     assert_eq!((inputs[empty].len(), inputs[longer].len()), (0, 65537));
     let mut tally = Tally { kinds: Vec::new(), wrong: 0 };
     plain_runs(&mut tally, run, &inputs);
-    widened_runs(&mut tally, run, &inputs[..full]);
     broken_runs(&mut tally, run, &inputs[0], emulated);
     broken_runs(&mut tally, run, &inputs[full], emulated);
     let mut left_out = if emulated { vec!["streams that are closed, under an emulator"] } else { Vec::new() };

@@ -1,11 +1,10 @@
 // The independent second program: it computes from the specification alone, by naive definitions, what the library must hand back and leave in its buffers.
 //
-//   referee cases 8                        writes the cases of crates/vectors, a line each (crates/vectors/stdin)
-//   referee answers 8                      writes what crates/vectors must print of them (crates/vectors/stdout)
-//   referee list-cases 8, list-answers 8   the same for check/listing
-//   referee counts 8                       writes how many cases each call has, and how many of them each rule refuses
+//   referee cases                      writes the cases of crates/vectors, a line each (crates/vectors/stdin)
+//   referee answers                    writes what crates/vectors must print of them (crates/vectors/stdout)
+//   referee list-cases, list-answers   the same for check/listing
+//   referee counts                     writes how many cases each call has, and how many of them each rule refuses
 //
-// With 16 for 8, those of crates/vectors16.
 // `check/vectors` runs it and compares; docs/REFEREE.md says what is compared.
 
 #[path = "referee/answers.rs"]
@@ -18,8 +17,6 @@ mod definitions;
 mod draw;
 #[path = "referee/highest_cases.rs"]
 mod highest_cases;
-#[path = "referee/level_cases.rs"]
-mod level_cases;
 #[path = "referee/marked.rs"]
 mod marked;
 #[path = "referee/refusals.rs"]
@@ -47,35 +44,20 @@ fn counts(all: &[cases::Case]) -> Vec<String> {
     cases::CALLS.iter().map(of_call).collect()
 }
 
-/// How many levels the pixels of the width have that the second argument names.
-fn levels() -> Option<u64> {
-    match std::env::args().nth(2).as_deref() {
-        Some("8") => Some(draw::LEVELS8),
-        Some("16") => Some(draw::LEVELS16),
-        _ => None,
-    }
-}
-
-/// The lines of what is asked for at a width.
-fn lines(what: &str, levels: u64) -> Option<Vec<String>> {
-    let text = |cases: Vec<cases::Case>| cases.iter().map(|c| c.text()).collect();
-    let answers = |cases: Vec<cases::Case>| cases.iter().zip(1..).map(|(c, n)| answers::answer(n, c)).collect();
-    match what {
-        "cases" => Some(text(cases::families(levels))),
-        "answers" => Some(answers(cases::families(levels))),
-        "list-cases" => Some(text(cases::listings(levels))),
-        "list-answers" => Some(answers(cases::listings(levels))),
-        "counts" => Some(counts(&cases::families(levels))),
-        _ => None,
-    }
-}
-
 fn main() {
     assert!(marked::hold(), "the referee's definitions miss a marked example");
-    let asked = std::env::args().nth(1).zip(levels()).and_then(|(what, levels)| lines(&what, levels));
-    let Some(lines) = asked else {
-        eprintln!("usage: referee cases|answers|list-cases|list-answers|counts 8|16");
-        std::process::exit(2);
+    let text = |cases: Vec<cases::Case>| cases.iter().map(|c| c.text()).collect();
+    let answers = |cases: Vec<cases::Case>| cases.iter().zip(1..).map(|(c, n)| answers::answer(n, c)).collect();
+    let lines: Vec<String> = match std::env::args().nth(1).as_deref() {
+        Some("cases") => text(cases::families()),
+        Some("answers") => answers(cases::families()),
+        Some("list-cases") => text(cases::listings()),
+        Some("list-answers") => answers(cases::listings()),
+        Some("counts") => counts(&cases::families()),
+        _ => {
+            eprintln!("usage: referee cases|answers|list-cases|list-answers|counts");
+            std::process::exit(2);
+        }
     };
     let mut out = std::io::BufWriter::new(std::io::stdout());
     for line in lines {

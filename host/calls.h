@@ -1,6 +1,5 @@
-/* The library's calls for the demonstration and the benchmark: a slice is a pointer and how many entries it has, an answer a record of two numbers. Those of
- * 8-bit pixels stand in the static library of the crate `exports`, those of 16-bit pixels, whose names end in 16, in that of `exports16`, and the summary's,
- * which has no pixels, in that of `summary`. */
+/* The library's calls as the crate `exports` has them, for the demonstration and the benchmark: a slice is a pointer and a length, an answer a record of two
+ * numbers. */
 #ifndef CALLS_H
 #define CALLS_H
 
@@ -19,21 +18,11 @@ typedef struct {
 Answer c_erode(const uint8_t *src, size_t n, size_t length, uint8_t *dst, size_t room);
 Answer c_dilate(const uint8_t *src, size_t m, size_t length, uint8_t *dst, size_t room);
 Answer c_open_line(const uint8_t *src, size_t n, size_t length, uint8_t *dst, size_t room, uint8_t *scratch, size_t spare);
-Answer c_gather(const uint8_t *src, size_t pixels, size_t width, size_t height, size_t stride, int64_t p, int64_t q, int64_t line, uint8_t *dst, size_t room);
-Answer c_highest(const uint8_t *src, size_t pixels, size_t width, size_t height, size_t stride, size_t length, uint8_t *dst, size_t room,
+Answer c_gather(const uint8_t *src, size_t bytes, size_t width, size_t height, size_t stride, int64_t p, int64_t q, int64_t line, uint8_t *dst, size_t room);
+Answer c_highest(const uint8_t *src, size_t bytes, size_t width, size_t height, size_t stride, size_t length, uint8_t *dst, size_t room,
                  uint8_t *directions, size_t directions_room, uint8_t *scratch, size_t spare);
-Answer c_sums_of_frame(const uint8_t *src, size_t pixels, size_t width, size_t height, size_t stride, int64_t p, int64_t q, uint64_t *sums, size_t entries,
+Answer c_sums_of_frame(const uint8_t *src, size_t bytes, size_t width, size_t height, size_t stride, int64_t p, int64_t q, uint64_t *sums, size_t entries,
                        uint8_t *scratch, size_t spare);
-
-Answer c_erode16(const uint16_t *src, size_t n, size_t length, uint16_t *dst, size_t room);
-Answer c_dilate16(const uint16_t *src, size_t m, size_t length, uint16_t *dst, size_t room);
-Answer c_open_line16(const uint16_t *src, size_t n, size_t length, uint16_t *dst, size_t room, uint8_t *scratch, size_t spare);
-Answer c_gather16(const uint16_t *src, size_t pixels, size_t width, size_t height, size_t stride, int64_t p, int64_t q, int64_t line, uint16_t *dst, size_t room);
-Answer c_highest16(const uint16_t *src, size_t pixels, size_t width, size_t height, size_t stride, size_t length, uint16_t *dst, size_t room,
-                   uint8_t *directions, size_t directions_room, uint8_t *scratch, size_t spare);
-Answer c_sums_of_frame16(const uint16_t *src, size_t pixels, size_t width, size_t height, size_t stride, int64_t p, int64_t q, uint64_t *sums, size_t entries,
-                         uint8_t *scratch, size_t spare);
-
 double c_mean(const uint64_t *sums, size_t entries);
 double c_share(const uint64_t *sums, size_t entries);
 uint32_t c_number(const uint64_t *sums, size_t entries);

@@ -342,18 +342,18 @@ static void draw(Scene *s, Bean *beans, uint8_t *pixels)
 static const char *make(uint64_t seed, size_t width, size_t height)
 {
     size_t area = width * height;
-    Picture picture = {.width = width, .height = height, .count = area, .brightest = 255};
+    Picture picture = {width, height, area, 255, malloc(area)};
     Scene scene = {(int)width, (int)height, calloc(area, sizeof(double)), calloc(area, sizeof(double)), mixed(seed)};
     Bean *beans = calloc(area / 60 + 1, sizeof *beans);
     const char *wrong = "no memory for the picture";
-    if (picture_begin(&picture) && scene.light && scene.cover && beans) {
+    if (picture.pixels && scene.light && scene.cover && beans) {
         draw(&scene, beans, picture.pixels);
         wrong = pgm_write(stdout, &picture);
     }
     free(beans);
     free(scene.cover);
     free(scene.light);
-    picture_end(&picture);
+    free(picture.pixels);
     return wrong;
 }
 

@@ -29,7 +29,7 @@ static int done(const char *who, uint64_t number, uint64_t figure)
 static int opened(Demo *d)
 {
     const Picture *p = &d->picture;
-    Answer a = c_highest(p->pixels, p->count, p->width, p->height, p->width, d->length, d->highest, p->count, d->directions, p->count,
+    Answer a = c_highest(p->pixels, p->bytes, p->width, p->height, p->width, d->length, d->highest, p->bytes, d->directions, p->bytes,
                          d->scratch, d->spare);
     return done("highest", a.number, a.figure);
 }
@@ -128,7 +128,7 @@ static void lay_key(Sheet *sheet)
 static void lay_out(const Demo *d, Sheet *sheet)
 {
     unsigned reached = 1;
-    for (size_t i = 0; i < d->picture.count; i++)
+    for (size_t i = 0; i < d->picture.bytes; i++)
         reached = d->highest[i] > reached ? d->highest[i] : reached;
     memset(sheet->pixels, GREYS - 1, sheet->width * sheet->height);
     for (size_t y = 0; y < sheet->height; y++)
@@ -181,13 +181,13 @@ static int print_table(const Demo *d)
 {
     const Picture *p = &d->picture;
     uint64_t light = 0, sums[BINS + 1];
-    for (size_t i = 0; i < p->count; i++)
+    for (size_t i = 0; i < p->bytes; i++)
         light += p->pixels[i];
     printf("Size sums: how much of the light lies in stretches of each length as measured along a row. Mean length and share are those of lengths 1 to %d\n", BINS);
     printf("direction          1-4       5-8      9-16     17-32     33-64    longer    mean  share\n");
     for (unsigned n = 0; n < DIRECTIONS; n++) {
         Direction by = direction_numbered(n);
-        Answer a = c_sums_of_frame(p->pixels, p->count, p->width, p->height, p->width, by.p, by.q, sums, BINS + 1, d->scratch, d->spare);
+        Answer a = c_sums_of_frame(p->pixels, p->bytes, p->width, p->height, p->width, by.p, by.q, sums, BINS + 1, d->scratch, d->spare);
         if (!done("sums_of_frame", a.number, a.figure))
             return 0;
         print_sums(n, by, sums);
@@ -216,15 +216,6 @@ static int run(Demo *d, const char *name)
     return print_table(d) ? 0 : 1;
 }
 
-static const char *read_narrow(Picture *picture)
-{
-    const char *wrong = pgm_read(stdin, picture);
-    if (wrong || picture->pixels)
-        return wrong;
-    picture_end(picture);
-    return "the maximum is above 255: only pixels of 8 bits are shown";
-}
-
 int main(int count, char **words)
 {
     Demo d;
@@ -234,7 +225,7 @@ int main(int count, char **words)
         fprintf(stderr, "usage: demo LENGTH OUT.png <IN.pgm (LENGTH as measured along a row)\n");
         return 2;
     }
-    const char *wrong = read_narrow(&d.picture);
+    const char *wrong = pgm_read(stdin, &d.picture);
     if (wrong) {
         fprintf(stderr, "demo: %s\n", wrong);
         return 3;
@@ -242,14 +233,14 @@ int main(int count, char **words)
     size_t w = d.picture.width, h = d.picture.height, side = w > h ? w : h;
     size_t least = 8 * (side < 4096 ? side : 4096);
     d.length = (size_t)length;
-    d.spare = d.picture.count > least ? d.picture.count : least; /* with a byte a pixel the highest opening is many times as fast */
-    d.highest = malloc(d.picture.count + 1);
-    d.directions = malloc(d.picture.count + 1);
+    d.spare = d.picture.bytes > least ? d.picture.bytes : least; /* with a byte a pixel the highest opening is many times as fast */
+    d.highest = malloc(d.picture.bytes + 1);
+    d.directions = malloc(d.picture.bytes + 1);
     d.scratch = malloc(d.spare + 1);
     int status = run(&d, words[2]);
     free(d.scratch);
     free(d.directions);
     free(d.highest);
-    picture_end(&d.picture);
+    free(d.picture.pixels);
     return status;
 }

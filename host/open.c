@@ -18,8 +18,8 @@ static const char help[] =
     "              or a pair p,q: p columns to the right for q rows down, each -255 to 255, not both 0\n"
     "  LENGTH      the segment's length as measured along a row, 1 to 4096. Slanted, it may have fewer pixels:\n"
     "              a length of 21 is 16 pixels at 1,1 and 17 at 4,3\n"
-    "  IN.pgm      a binary PGM picture (P5) of 8 or 16 bits a pixel, its maximum 1 to 255 or 256 to 65535, at most 4096 x 4096;\n"
-    "              standard input where it is - or missing. Only the first picture of a file is read\n"
+    "  IN.pgm      a binary PGM picture (P5) of 8 bits a pixel, at most 4096 x 4096; standard input where it is - or missing.\n"
+    "              Only the first picture of a file is read\n"
     "  OUT.pgm     the opened picture, of the same size and maximum; standard output where it is - or missing.\n"
     "              It is written only once the work is done, so it may be the same file\n"
     "\n"
@@ -86,23 +86,15 @@ static size_t scratch_bytes(const Picture *picture)
     return 8 * (side < 4096 ? side : 4096);
 }
 
-/* By the entry for the width of the picture's pixels. */
-static uint64_t open_frame(const Job *job, const Picture *from, Picture *to, uint8_t *scratch, size_t spare)
-{
-    size_t w = from->width, h = from->height, count = from->count;
-    int64_t p = job->direction.p, q = job->direction.q;
-    return from->pixels ? fibre_open_frame(from->pixels, count, w, h, w, p, q, job->length, to->pixels, count, scratch, spare)
-                        : fibre_open_frame16(from->pixels16, count, w, h, w, p, q, job->length, to->pixels16, count, scratch, spare);
-}
-
-/* Opens one picture into another, which has its size and width of pixels and a block of its own. */
+/* Opens one picture into another, which has its size and a block of its own. */
 static int opened(const Job *job, const Picture *from, Picture *to)
 {
     size_t spare = scratch_bytes(from);
     uint8_t *scratch = malloc(spare + 1);
     if (!scratch)
         return failed(job->in, "no memory for the scratch");
-    uint64_t answer = open_frame(job, from, to, scratch, spare);
+    uint64_t answer = fibre_open_frame(from->pixels, from->bytes, from->width, from->height, from->width, job->direction.p, job->direction.q,
+                                       job->length, to->pixels, to->bytes, scratch, spare);
     free(scratch);
     if (answer == 0)
         return DONE;
@@ -117,11 +109,12 @@ static int run(const Job *job)
     if (wrong)
         return failed(job->in, wrong);
     Picture to = from;
-    int status = picture_begin(&to) ? opened(job, &from, &to) : failed(job->in, "no memory for the result");
+    to.pixels = malloc(to.bytes + 1);
+    int status = to.pixels ? opened(job, &from, &to) : failed(job->in, "no memory for the result");
     if (status == DONE && (wrong = picture_to(job->out, &to)))
         status = failed(job->out, wrong);
-    picture_end(&to);
-    picture_end(&from);
+    free(to.pixels);
+    free(from.pixels);
     return status;
 }
 

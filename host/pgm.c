@@ -52,59 +52,20 @@ static const char *read_header(FILE *file, Picture *picture)
         return "the header has no height";
     if (!header_number(file, &brightest))
         return "the header has no maximum";
-    if (brightest < 1 || brightest > 65535)
-        return "the maximum is not 1 to 65535";
+    if (brightest < 1 || brightest > 255)
+        return "the maximum is not 1 to 255: only pixels of 8 bits are read";
     picture->brightest = (unsigned)brightest;
     return NULL;
 }
 
-int picture_begin(Picture *picture)
+static const char *read_pixels(FILE *file, const Picture *picture)
 {
-    int wide = picture->brightest > 255;
-    size_t room = picture->count + 1; /* never none, so null means one thing only */
-    picture->pixels = wide ? NULL : malloc(room);
-    picture->pixels16 = wide ? malloc(room * sizeof *picture->pixels16) : NULL;
-    return picture->pixels || picture->pixels16;
-}
-
-void picture_end(Picture *picture)
-{
-    free(picture->pixels);
-    free(picture->pixels16);
-}
-
-/* A pixel of 16 bits is two bytes in the file, the more significant one first. Whether all are there. */
-static int read_pixels(FILE *file, const Picture *picture)
-{
-    if (picture->pixels)
-        return fread(picture->pixels, 1, picture->count, file) == picture->count;
-    for (size_t i = 0; i < picture->count; i++) {
-        int high = getc(file), low = getc(file);
-        if (high == EOF || low == EOF)
-            return 0;
-        picture->pixels16[i] = (uint16_t)(high * 256 + low);
-    }
-    return 1;
-}
-
-static void write_pixels(FILE *file, const Picture *picture)
-{
-    if (picture->pixels) {
-        fwrite(picture->pixels, 1, picture->count, file);
-        return;
-    }
-    for (size_t i = 0; i < picture->count; i++) {
-        putc(picture->pixels16[i] / 256, file);
-        putc(picture->pixels16[i] % 256, file);
-    }
-}
-
-static int is_within(const Picture *picture)
-{
-    for (size_t i = 0; i < picture->count; i++)
-        if ((picture->pixels ? picture->pixels[i] : picture->pixels16[i]) > picture->brightest)
-            return 0;
-    return 1;
+    if (fread(picture->pixels, 1, picture->bytes, file) != picture->bytes)
+        return "the file ends before its last pixel";
+    for (size_t i = 0; i < picture->bytes; i++)
+        if (picture->pixels[i] > picture->brightest)
+            return "a pixel is brighter than the maximum";
+    return NULL;
 }
 
 const char *pgm_read(FILE *file, Picture *picture)
@@ -113,21 +74,19 @@ const char *pgm_read(FILE *file, Picture *picture)
     if (wrong)
         return wrong;
     size_t w = picture->width, h = picture->height;
-    picture->count = h != 0 && w > PGM_MOST / h ? 0 : w * h;
-    if (!picture_begin(picture))
+    picture->bytes = h != 0 && w > PGM_MOST / h ? 0 : w * h;
+    picture->pixels = malloc(picture->bytes + 1); /* never of no bytes, so null means one thing only */
+    if (!picture->pixels)
         return "no memory for the pixels";
-    if (!read_pixels(file, picture))
-        wrong = "the file ends before its last pixel";
-    else if (!is_within(picture))
-        wrong = "a pixel is brighter than the maximum";
+    wrong = read_pixels(file, picture);
     if (wrong)
-        picture_end(picture);
+        free(picture->pixels);
     return wrong;
 }
 
 const char *pgm_write(FILE *file, const Picture *picture)
 {
     fprintf(file, "P5\n%zu %zu\n%u\n", picture->width, picture->height, picture->brightest);
-    write_pixels(file, picture);
+    fwrite(picture->pixels, 1, picture->bytes, file);
     return fflush(file) == 0 && !ferror(file) ? NULL : "not all could be written";
 }

@@ -1,4 +1,4 @@
-/* Grey pictures as PGM files: the binary kind (P5), 8 or 16 bits a pixel. */
+/* Grey pictures as PGM files: the binary kind (P5), 8 bits a pixel. */
 #ifndef PGM_H
 #define PGM_H
 
@@ -9,20 +9,13 @@
 /* The most pixels that are read: a frame has no more. */
 enum { PGM_MOST = 4096 * 4096 };
 
-/* Row after row without gaps. The pixels stand in a block of their own, 8 or 16 bits each: one of the two pointers is null. `count` is how many there are:
- * width * height, or 0 where that is above PGM_MOST. */
+/* Row after row without gaps. `pixels` is a block of its own, never null after a picture was read, and `bytes` what it holds: width * height,
+ * or 0 where that is above PGM_MOST. */
 typedef struct {
-    size_t width, height, count;
-    unsigned brightest; /* the file's maximum, 1 to 65535 */
-    uint8_t *pixels;    /* where the maximum is at most 255, else null */
-    uint16_t *pixels16; /* where it is above, else null */
+    size_t width, height, bytes;
+    unsigned brightest; /* the file's maximum, 1 to 255 */
+    uint8_t *pixels;
 } Picture;
-
-/* Takes the block for the pixels of a picture whose other fields are set; 0 where there is no memory. */
-int picture_begin(Picture *picture);
-
-/* Gives the block back. */
-void picture_end(Picture *picture);
 
 /* Reads the first picture of a file. Null, or what is wrong with the file; then nothing is left to free. A picture of more than PGM_MOST pixels is read
  * up to its header: its size stands in it, for others to refuse. What follows the pixels is not looked at. */

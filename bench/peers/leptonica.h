@@ -7,7 +7,7 @@ class Leptonica {
     PIX *picture, *opened = nullptr;
 
 public:
-    explicit Leptonica(const Frame<uint8_t> &frame) : picture(pixCreate(frame.width, frame.height, 8))
+    explicit Leptonica(const Frame &frame) : picture(pixCreate(frame.width, frame.height, 8))
     {
         for (long y = 0; y < frame.height; y++)
             for (long x = 0; x < frame.width; x++)

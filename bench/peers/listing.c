@@ -17,15 +17,12 @@ static void nest(struct stretch *table, size_t count)
     }
 }
 
-/* Both callers say as a constant how wide a pixel is, and this is compiled into each: no width is looked at as it runs. */
-static inline __attribute__((always_inline)) size_t listed(const void *line, int wide, size_t n, struct stretch *table)
+size_t stack_list(const uint8_t *line, size_t n, struct stretch *table)
 {
-    const uint8_t *pixels = line;
-    const uint16_t *pixels16 = line;
     static struct run runs[65536];
     size_t count = 0, depth = 0;
     for (size_t at = 0; at < n; at++) {
-        unsigned level = wide ? pixels16[at] : pixels[at], start = at;
+        unsigned level = line[at], start = at;
         while (depth && runs[depth - 1].level > level) {
             depth--;
             start = runs[depth].start;
@@ -43,14 +40,4 @@ static inline __attribute__((always_inline)) size_t listed(const void *line, int
     }
     nest(table, count);
     return count;
-}
-
-size_t stack_list(const uint8_t *line, size_t n, struct stretch *table)
-{
-    return listed(line, 0, n, table);
-}
-
-size_t stack_list16(const uint16_t *line, size_t n, struct stretch *table)
-{
-    return listed(line, 1, n, table);
 }

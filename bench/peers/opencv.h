@@ -16,11 +16,10 @@ inline cv::Mat opencv_segment(Direction d, long pixels)
 
 // An erosion, then a dilation that looks the other way: with the kernel turned by half, from the opposite anchor. `morphologyEx` does not turn, which for an even
 // count of pixels moves the picture by one.
-template <class Pixel> void opencv_open(const Frame<Pixel> &src, const cv::Mat &kernel, Frame<Pixel> &dst)
+inline void opencv_open(const Frame &src, const cv::Mat &kernel, Frame &dst)
 {
-    const int kind = cv::DataType<Pixel>::type; // CV_8U or CV_16U
-    cv::Mat from(src.height, src.width, kind, const_cast<Pixel *>(src.pixels.data()), src.stride * sizeof(Pixel));
-    cv::Mat to(dst.height, dst.width, kind, dst.pixels.data(), dst.stride * sizeof(Pixel));
+    cv::Mat from(src.height, src.width, CV_8U, const_cast<uint8_t *>(src.bytes.data()), src.stride);
+    cv::Mat to(dst.height, dst.width, CV_8U, dst.bytes.data(), dst.stride);
     cv::Point middle(kernel.cols / 2, kernel.rows / 2), opposite(kernel.cols - 1 - middle.x, kernel.rows - 1 - middle.y);
     cv::Mat turned;
     cv::flip(kernel, turned, -1);

@@ -2,18 +2,17 @@
 
 use crate::cases::*;
 use crate::definitions::*;
-use crate::draw::{self, check, check_bytes, check_pixels, check_sums};
+use crate::draw::{self, check, check_bytes, check_sums};
 use crate::refusals::{self, Refusal};
 use crate::texts::{read, sums_text};
 
 /// The sizes of the arrays in crates/vectors, which no case outgrows but by its guard.
-const PIXELS: usize = 65664;
-const LETTERS: usize = 131072;
+const BYTES: usize = 131072;
 const DIRECTIONS: usize = 16384;
 const SUMS: usize = 4224;
 const SCRATCH: usize = 49152;
 
-/// The pixels, bytes, sums, places or records behind a lent buffer: none of those may change.
+/// The bytes, sums, places or records behind a lent buffer: none of those may change.
 const GUARD: u64 = 8;
 
 /// What a call hands back, in four numbers.
@@ -25,47 +24,36 @@ struct Got {
     second: u64,
 }
 
-/// The buffers of a case as they are lent, each with its guard behind; the letters are the text of an input, or the destination of a sums text.
+/// The buffers of a case as they are lent, each with its guard behind.
 struct Lent {
-    src: Vec<Pixel>,
-    dst: Vec<Pixel>,
+    src: Vec<u8>,
+    dst: Vec<u8>,
     directions: Vec<u8>,
     sums: Vec<u64>,
     scratch: Vec<u8>,
-    letters: Vec<u8>,
 }
 
 fn guarded(n: u64, room: usize) -> usize {
     ((n + GUARD) as usize).min(room)
 }
 
-/// A source is of the case's kind, and a listing's may be a shape; a text has none.
-fn source(c: &Case) -> Vec<Pixel> {
-    match c.call {
-        READ_INPUT | SUMS_TEXT => Vec::new(),
-        LIST => draw::line(c.levels, c.src as usize, c.kind, c.seed),
-        _ => draw::pixels(c.levels, c.src as usize, c.kind, c.seed),
-    }
-}
-
-/// An input is the text that the case brings along; a sums text is written over noise.
-fn letters(c: &Case) -> Vec<u8> {
+/// An input is the text that the case brings along; any other source is of the case's kind, and a listing's may be a shape.
+fn source(c: &Case) -> Vec<u8> {
     match c.call {
         READ_INPUT => draw::text(&c.given, c.src as usize, c.height as usize),
-        SUMS_TEXT => draw::bytes(guarded(c.dst, LETTERS), c.seed + 1),
-        _ => Vec::new(),
+        LIST => draw::line(c.src as usize, c.kind, c.seed),
+        _ => draw::bytes(c.src as usize, c.kind, c.seed),
     }
 }
 
 fn lend(c: &Case) -> Lent {
-    let (places, entries) = if c.call == SUMS_TEXT { (0, c.src) } else { (guarded(c.dst, PIXELS), c.dst) };
+    let entries = if c.call == SUMS_TEXT { c.src } else { c.dst };
     Lent {
         src: source(c),
-        dst: draw::pixels(c.levels, places, 0, c.seed + 1),
-        directions: draw::bytes(guarded(c.directions, DIRECTIONS), c.seed + 4),
+        dst: draw::bytes(guarded(c.dst, BYTES), 0, c.seed + 1),
+        directions: draw::bytes(guarded(c.directions, DIRECTIONS), 0, c.seed + 4),
         sums: draw::sums(guarded(entries, SUMS), c.kind, c.seed + 2),
-        scratch: draw::bytes(guarded(c.scratch, SCRATCH), c.seed + 3),
-        letters: letters(c),
+        scratch: draw::bytes(guarded(c.scratch, SCRATCH), 0, c.seed + 3),
     }
 }
 
@@ -78,7 +66,7 @@ fn refused((number, figure): Refusal) -> Got {
 }
 
 /// Writes the values to the front of the destination: 'what follows is unchanged'.
-fn write<T: Copy>(values: &[T], dst: &mut [T]) {
+fn write(values: &[u8], dst: &mut [u8]) {
     dst[..values.len()].copy_from_slice(values);
 }
 
@@ -100,13 +88,10 @@ fn on_line(c: &Case, lent: &mut Lent) -> Got {
     done(if c.call == OPEN_LINE { 0 } else { values.len() })
 }
 
-fn listed(lent: &Lent) -> Got {
+fn listed(c: &Case, lent: &Lent) -> Got {
     let list = stretches(&lent.src);
-    Got { first: check(1, list.iter().flatten().copied()), ..done(list.len()) }
-}
-
-fn counted(c: &Case, lent: &Lent) -> Got {
-    done(if refusals::count(c.levels, c.src) { 0 } else { stretches(&lent.src).len() })
+    let first = if c.call == COUNT { 0 } else { check(1, list.iter().flatten().copied()) };
+    Got { first, ..done(list.len()) }
 }
 
 /// 'The stretches are stored as records .. in a table the caller lends. Entries past the list do not change.' A record has its encloser's place as a fifth number.
@@ -124,21 +109,21 @@ fn listed_in_table(c: &Case, lent: &Lent) -> Got {
 /// The stretches' 'fifth numbers, in the same order', at the front of the places; refused, 'it hands back 0 and nothing changes'. The number is 1 where 0 is handed back.
 fn enclosers(c: &Case, lent: &Lent) -> Got {
     let refused = refusals::enclosers(c.src, c.dst, c.scratch);
-    let fifth: Vec<u16> = if refused { Vec::new() } else { nested(&lent.src).iter().map(|record| record[4] as u16).collect() };
+    let fifth: Vec<u64> = if refused { Vec::new() } else { nested(&lent.src).iter().map(|record| record[4]).collect() };
     let mut places = draw::places((c.dst + GUARD) as usize, c.seed + 4);
     places[..fifth.len()].copy_from_slice(&fifth);
-    Got { number: fifth.is_empty() as u64, first: check_pixels(1, &places), ..done(fifth.len()) }
+    Got { number: fifth.is_empty() as u64, first: check(1, places.into_iter()), ..done(fifth.len()) }
 }
 
 /// 'A row number of H or more, or a frame that rule 1 or 5 refuses, gives the empty part.'
 fn row(c: &Case, lent: &Lent) -> Got {
     let shape = c.shape();
-    if !shape.is_frame() || c.src < shape.needed() || c.length >= shape.height {
+    if !shape.is_frame() || c.src < shape.bytes() || c.length >= shape.height {
         return Got { first: 1, ..done(0) };
     }
     let from = shape.place(0, c.length);
     let row = &lent.src[from..from + shape.width as usize];
-    Got { first: check_pixels(1, row), ..done(row.len()) }
+    Got { first: check_bytes(1, row), ..done(row.len()) }
 }
 
 /// The first line's number and how many there are; none where rule 1 or 2 refuses.
@@ -155,7 +140,7 @@ fn looked_up(c: &Case) -> Got {
     match c.call {
         LINES_OF => lines_of(c),
         NUMBER => Got { first: numbered(c.length).p as u64, second: numbered(c.length).q as u64, ..done(0) },
-        SHAPE => Got { number: shape.is_frame() as u64, figure: if shape.is_frame() { shape.needed() } else { 0 }, ..done(0) },
+        SHAPE => Got { number: shape.is_frame() as u64, figure: if shape.is_frame() { shape.bytes() } else { 0 }, ..done(0) },
         _ => Got { number: d.is_direction() as u64, figure: d.is_shallow() as u64, first: d.turned().p as u64, second: d.turned().q as u64 },
     }
 }
@@ -242,29 +227,27 @@ fn sums_printed(c: &Case, lent: &mut Lent) -> Got {
     if let Some(refusal) = refusals::sums_text(c.length, c.src, text.len() as u64, c.dst) {
         return refused(refusal);
     }
-    write(text.as_bytes(), &mut lent.letters);
+    write(text.as_bytes(), &mut lent.dst);
     done(text.len())
 }
 
-/// The frame of an input: direction, the checksum of width, height and bits and of its pixels at the front of the places, for which there must be room.
-fn input_read(c: &Case, lent: &Lent) -> Got {
-    let mut places = draw::places((c.dst + GUARD) as usize, c.seed + 4);
-    let (got, sides) = match read(&lent.letters) {
-        Err(number) => (refused((number, 0)), [0; 3]),
-        Ok(frame) if c.dst < frame.width * frame.height => (refused((6, frame.width * frame.height)), [0; 3]),
+/// The frame of an input: direction, the checksum of width and height, and its pixels at the destination's front, for which there must be room.
+fn input_read(c: &Case, lent: &mut Lent) -> Got {
+    let no_sides = check(1, [0, 0].into_iter());
+    match read(&lent.src) {
+        Err(number) => Got { second: no_sides, ..refused((number, 0)) },
+        Ok(frame) if c.dst < frame.width * frame.height => Got { second: no_sides, ..refused((6, frame.width * frame.height)) },
         Ok(frame) => {
-            write(&frame.pixels, &mut places);
-            (Got { first: frame.direction, ..done(0) }, [frame.width, frame.height, frame.bits])
+            write(&frame.pixels, &mut lent.dst);
+            Got { first: frame.direction, second: check(1, [frame.width, frame.height].into_iter()), ..done(0) }
         }
-    };
-    Got { second: check_pixels(check(1, sides.into_iter()), &places), ..got }
+    }
 }
 
 fn called(c: &Case, lent: &mut Lent) -> Got {
     match c.call {
         ERODE | DILATE | OPEN_LINE => on_line(c, lent),
-        STRETCHES => listed(lent),
-        COUNT => counted(c, lent),
+        STRETCHES | COUNT => listed(c, lent),
         LIST => listed_in_table(c, lent),
         ENCLOSERS => enclosers(c, lent),
         ROW => row(c, lent),
@@ -287,8 +270,7 @@ pub fn answer(number: usize, c: &Case) -> String {
     let mut lent = lend(c);
     let got = called(c, &mut lent);
     let from = if got.number == 0 { (c.scratch as usize).min(lent.scratch.len()) } else { 0 };
-    let written = if c.call == SUMS_TEXT { check_bytes(1, &lent.letters) } else { check_pixels(1, &lent.dst) };
-    let destinations = check_bytes(written, &lent.directions);
+    let destinations = check_bytes(check_bytes(1, &lent.dst), &lent.directions);
     let left = check_bytes(check_sums(destinations, &lent.sums), &lent.scratch[from..]);
     format!("{number}\t{}\t{}\t{:x}\t{:x}\t{left:x}", got.number, got.figure, got.first, got.second)
 }

@@ -1,12 +1,11 @@
 // The cases of crates/vectors: which calls are made, on buffers of which sizes, and with which arguments.
-// A case is a line of fourteen numbers; what a call does not take is 0. An input has the bytes of its text behind them. There is a file a width; see `families` for what each covers and why.
+// A case is a line of fourteen numbers; what a call does not take is 0. An input has the bytes of its text behind them. See `families` for what is covered and why.
 
 use crate::definitions::{lines, stretches as stretches_of, Direction, Shape, NUMBERED};
-use crate::draw::{self, Draws, KINDS, KINDS_OF_BYTES, LEVELS16};
+use crate::draw::{self, Draws};
 use crate::highest_cases::{highest_destinations, highest_drawn, highest_limits, highest_refused, highest_rooms};
-use crate::level_cases::{counts_long, levels_of_frames, levels_of_lines, levels_of_stretches, sums_above_32_bits};
 use crate::slanted_cases::{openings_long, openings_slanted, pixels_of_lengths, roses_wide, sums_shared, sums_slanted};
-use crate::text_cases::{inputs_edited, inputs_large, inputs_numbers, inputs_of_16_bits, inputs_refused, inputs_whole, sums_texts};
+use crate::text_cases::{inputs_edited, inputs_large, inputs_numbers, inputs_refused, inputs_whole, sums_texts};
 
 /// The calls by their numbers in the case file.
 pub const ERODE: u64 = 1;
@@ -51,14 +50,9 @@ const ODD: [(i64, i64); 14] = [
 /// Pairs that are no direction.
 pub const REFUSED: [(i64, i64); 7] = [(0, 0), (256, 1), (1, -256), (-256, 0), (0, 256), (4096, -4096), (-300, 255)];
 
-/// The kinds of a listing's line: drawn pixel after pixel, and from 7 on by place.
-const ALL_KINDS: [u64; 13] = [0, 1, 2, 3, 4, 5, 6, 7, 8, 9, 10, 11, 12];
-
-/// A case as the file has it, and how many levels the pixels of the file's width have; `given` is the text of an input, of which the case has `width` bytes, and each of the others is the one
-/// `height` before it.
+/// A case as the file has it; `given` is the text of an input, of which the case has `width` bytes, and each of the others is the one `height` before it.
 #[derive(Clone, Default)]
 pub struct Case {
-    pub levels: u64,
     pub call: u64,
     pub kind: u64,
     pub seed: u64,
@@ -99,9 +93,8 @@ impl Case {
     }
 }
 
-/// The cases of a width so far, and the draws that make them up.
+/// The cases so far, and the draws that make them up.
 pub struct Cases {
-    pub levels: u64,
     pub list: Vec<Case>,
     pub draws: Draws,
 }
@@ -109,7 +102,7 @@ pub struct Cases {
 impl Cases {
     pub fn add(&mut self, case: Case) {
         let seed = self.list.len() as u64 * 7 + 1;
-        self.list.push(Case { levels: self.levels, seed, ..case });
+        self.list.push(Case { seed, ..case });
     }
 
     /// A frame of at most `most` pixels a side.
@@ -122,15 +115,15 @@ impl Cases {
         let d = &mut self.draws;
         let (width, height) = (d.within(least, most), d.within(least, most));
         let stride = width + d.below(4);
-        let needed = (height - 1) * stride + width;
-        let (src, dst, scratch) = (needed + d.below(3), needed + d.below(3), 8 * width.max(height) + d.below(2));
-        Case { call, kind: d.below(KINDS), width, height, stride, length: d.within(1, 9), src, dst, directions: directions_for(call, needed), scratch, ..Case::default() }
+        let bytes = (height - 1) * stride + width;
+        let (src, dst, scratch) = (bytes + d.below(3), bytes + d.below(3), 8 * width.max(height) + d.below(2));
+        Case { call, kind: d.below(7), width, height, stride, length: d.within(1, 9), src, dst, directions: directions_for(call, bytes), scratch, ..Case::default() }
     }
 }
 
 /// The size of the second destination: only the highest opening has one.
-fn directions_for(call: u64, needed: u64) -> u64 {
-    if call == HIGHEST { needed } else { 0 }
+fn directions_for(call: u64, bytes: u64) -> u64 {
+    if call == HIGHEST { bytes } else { 0 }
 }
 
 /// Every pair that is a direction, numbered or odd.
@@ -139,7 +132,7 @@ pub fn directions() -> Vec<(i64, i64)> {
 }
 
 /// The room that a line call's destination needs.
-pub fn line_room(call: u64, n: u64, length: u64) -> u64 {
+fn line_room(call: u64, n: u64, length: u64) -> u64 {
     match call {
         ERODE => (n + 1).saturating_sub(length),
         DILATE => (n + length).saturating_sub(1),
@@ -154,7 +147,7 @@ fn lines_small(cases: &mut Cases) {
         let drawn: Vec<(u64, u64)> = (0..100).map(|_| (cases.draws.within(1, 70), cases.draws.within(1, 30))).collect();
         for (n, length) in small.chain(drawn) {
             let dst = line_room(call, n, length) + cases.draws.below(3);
-            let kind = cases.draws.below(KINDS);
+            let kind = cases.draws.below(7);
             cases.add(Case { call, kind, length, src: n, dst, scratch: 8 * n, ..Case::default() });
         }
     }
@@ -178,11 +171,11 @@ fn lines_refused(cases: &mut Cases) {
 fn lines_long(cases: &mut Cases) {
     for (n, length) in [(4096, 1), (4096, 2), (4096, 77), (4096, 2048), (4096, 4095), (4096, 4096), (4096, 4097), (4097, 4096), (4095, 4096)] {
         for call in [ERODE, OPEN_LINE] {
-            cases.add(Case { call, kind: length % KINDS, length, src: n, dst: n, scratch: 8 * n, ..Case::default() });
+            cases.add(Case { call, kind: length % 7, length, src: n, dst: n, scratch: 8 * n, ..Case::default() });
         }
     }
     for (m, length) in [(1, 4096), (2, 4095), (2, 4096), (4096, 1), (4096, 2), (4095, 2), (2000, 2097), (2000, 2098), (4097, 1)] {
-        cases.add(Case { call: DILATE, kind: m % KINDS, length, src: m, dst: 4097, ..Case::default() });
+        cases.add(Case { call: DILATE, kind: m % 7, length, src: m, dst: 4097, ..Case::default() });
     }
 }
 
@@ -190,7 +183,7 @@ fn lines_long(cases: &mut Cases) {
 fn stretches(cases: &mut Cases) {
     for call in [STRETCHES, COUNT] {
         for n in (1..=30).chain([100, 255, 256, 257, 4095, 4096]) {
-            for kind in 0..KINDS {
+            for kind in 0..7 {
                 cases.add(Case { call, kind, src: n, scratch: 8 * n, ..Case::default() });
             }
         }
@@ -200,14 +193,14 @@ fn stretches(cases: &mut Cases) {
 /// Lines of every kind: none to 30 pixels, and on and about the limits; places and scratch just enough, and a little more; then each of them one short, both, and none at all.
 fn enclosers(cases: &mut Cases) {
     for n in (0..=30u64).chain([100, 255, 256, 257, 4095, 4096, 4097]) {
-        for kind in 0..KINDS {
+        for kind in 0..7 {
             for more in [0, kind + 1] {
                 cases.add(Case { call: ENCLOSERS, kind, src: n, dst: n + more, scratch: 4 * n + more, ..Case::default() });
             }
         }
         let (few, less) = (n.saturating_sub(1), (4 * n).saturating_sub(1));
         for (dst, scratch) in [(few, 4 * n), (n, less), (few, less), (0, 0)] {
-            cases.add(Case { call: ENCLOSERS, kind: n % KINDS, src: n, dst, scratch, ..Case::default() });
+            cases.add(Case { call: ENCLOSERS, kind: n % 7, src: n, dst, scratch, ..Case::default() });
         }
     }
 }
@@ -218,7 +211,7 @@ fn rows(cases: &mut Cases) {
         let mut case = cases.frame(ROW, 6);
         case.length = cases.draws.below(case.height + 2);
         match i % 9 {
-            0 => case.src = case.shape().needed() - 1,
+            0 => case.src = case.shape().bytes() - 1,
             1 => case.stride = case.width - 1,
             2 => case.width = 0,
             3 => case.length = u64::MAX,
@@ -264,9 +257,9 @@ fn gathers(cases: &mut Cases) {
     }
 }
 
-/// Picks a line of the frame, or one next to its first or last, and lends just the pixels that it needs.
-pub fn gather_line(case: &mut Case, draws: &mut Draws) {
-    let needed = case.shape().needed();
+/// Picks a line of the frame, or one next to its first or last, and lends just the bytes that it needs.
+fn gather_line(case: &mut Case, draws: &mut Draws) {
+    let bytes = case.shape().bytes();
     let mut count = 3;
     if case.direction().is_direction() {
         let lines = lines(case.shape(), case.direction());
@@ -274,7 +267,7 @@ pub fn gather_line(case: &mut Case, draws: &mut Draws) {
         case.line = first - 1 + draws.below((last - first + 3) as u64) as i64;
         count = lines.get(&case.line).map_or(2, |places| places.len() as u64);
     }
-    (case.src, case.dst) = if case.call == GATHER { (needed, count) } else { (count, needed) };
+    (case.src, case.dst) = if case.call == GATHER { (bytes, count) } else { (count, bytes) };
 }
 
 /// Small frames in every direction, then the highest and its direction over frames of ties, plateaus and ramps.
@@ -287,7 +280,7 @@ fn openings(cases: &mut Cases) {
     }
     for i in 0..200 {
         let mut case = cases.frame(HIGHEST, if i < 140 { 7 } else { 16 });
-        case.kind = i % KINDS;
+        case.kind = i % 7;
         case.length = cases.draws.within(1, 6);
         case.directions += i % 3;
         case.scratch += if i % 2 == 1 { case.width * case.height } else { 0 };
@@ -329,15 +322,15 @@ fn frames_refused(cases: &mut Cases) {
 /// The sides of the large frames.
 const LARGE: [(u64, u64); 7] = [(4096, 1), (4096, 2), (1, 4096), (2, 4096), (4097, 1), (1, 4097), (4096, 4096)];
 
-/// A large frame with no gap and buffers that just fit, or of 8,192 pixels where the frame has more.
+/// A large frame with no gap and buffers that just fit, or of 8,192 bytes where the frame has more.
 fn large(call: u64, (width, height): (u64, u64), length: u64) -> Case {
-    let pixels = (width * height).min(8192);
+    let bytes = (width * height).min(8192);
     let scratch = 8 * width.max(height);
-    let dst = if call == SUMS_OF_FRAME { 4 } else { pixels };
-    Case { call, kind: length % KINDS, width, height, stride: width, length, src: pixels, dst, directions: directions_for(call, pixels), scratch, ..Case::default() }
+    let dst = if call == SUMS_OF_FRAME { 4 } else { bytes };
+    Case { call, kind: length % 7, width, height, stride: width, length, src: bytes, dst, directions: directions_for(call, bytes), scratch, ..Case::default() }
 }
 
-/// Sides of 4,096 and 4,097, lengths of 4,096 and 4,097, and one pixel, sum or byte too few in each buffer.
+/// Sides of 4,096 and 4,097, lengths of 4,096 and 4,097, and one byte too few in each buffer.
 fn frames_large(cases: &mut Cases) {
     for call in [OPEN_FRAME, HIGHEST, SUMS_OF_FRAME, ROSE] {
         for sides in LARGE {
@@ -357,7 +350,7 @@ fn frames_large(cases: &mut Cases) {
     }
 }
 
-/// The highest of a large frame with more scratch than it needs; its second destination one pixel too short; either destination empty.
+/// The highest of a large frame with more scratch than it needs; its second destination one byte too short; either destination empty.
 fn destinations_large(cases: &mut Cases, sides: (u64, u64)) {
     for length in [4096, 2048, 9, 4] {
         let case = large(HIGHEST, sides, length);
@@ -369,7 +362,7 @@ fn destinations_large(cases: &mut Cases, sides: (u64, u64)) {
     }
 }
 
-/// The lines and rows of large frames, each buffer just long enough and one pixel too short.
+/// The lines and rows of large frames, each buffer just long enough and one byte too short.
 fn lines_of_large(cases: &mut Cases) {
     for sides in &LARGE[..6] {
         for (pair, line) in [((1, 0), 0), ((0, 1), 0), ((4, -1), 1024), ((4, 1), -1023), ((-255, 254), 4079), ((254, 255), -5), ((1, 0), 2)] {
@@ -386,7 +379,7 @@ fn lines_of_large(cases: &mut Cases) {
     }
 }
 
-/// Strides that are the widest, one more, and as wide as the frame; the second destination of the highest just fits and is one pixel too short.
+/// Strides that are the widest, one more, and as wide as the frame; the second destination of the highest just fits and is one byte too short.
 fn frames_strided(cases: &mut Cases) {
     let calls = [(OPEN_FRAME, 0), (HIGHEST, 0), (HIGHEST, 1), (SUMS_OF_FRAME, 0), (ROSE, 0), (ROW, 0)];
     for (stride, src) in [(65535, 8192), (65536, 8192), (4000, 8006), (4000, 8005), (7, 20), (6, 18), (5, 16)] {
@@ -404,13 +397,13 @@ fn frames_strided(cases: &mut Cases) {
 fn sums(cases: &mut Cases) {
     for i in 0..150 {
         let (n, entries) = (cases.draws.within(1, 40), cases.draws.within(2, 45));
-        cases.add(Case { call: SUMS_OF_LINE, kind: i % KINDS, src: n, dst: entries, scratch: 8 * n, ..Case::default() });
+        cases.add(Case { call: SUMS_OF_LINE, kind: i % 7, src: n, dst: entries, scratch: 8 * n, ..Case::default() });
     }
     for n in [0u64, 6, 4096, 4097] {
         for entries in [0, 1, 2, 5, 4097, 4098] {
             for scratch in [8 * n, (8 * n).saturating_sub(1)] {
                 let entries = if n > 4000 { entries.min(5) } else { entries };
-                cases.add(Case { call: SUMS_OF_LINE, kind: entries % KINDS, src: n, dst: entries, scratch, ..Case::default() });
+                cases.add(Case { call: SUMS_OF_LINE, kind: entries % 7, src: n, dst: entries, scratch, ..Case::default() });
             }
         }
     }
@@ -441,12 +434,10 @@ fn summaries(cases: &mut Cases) {
 }
 
 /// The cases of check/listing: lines of every kind and shape, on and about the limits; tables that just fit, are longer, and are one entry short; scratch one byte short; every set of broken rules.
-/// At 16 bits the kinds are those that only 16 bits tell apart, too, and of short lines every third has its turn.
-pub fn listings(levels: u64) -> Vec<Case> {
-    let mut cases = Cases { levels, list: Vec::new(), draws: Draws(7) };
-    let (kinds, every) = if levels == LEVELS16 { ([&ALL_KINDS[..], &KINDS_OF_BYTES].concat(), 3) } else { (ALL_KINDS.to_vec(), 1) };
-    for n in (0..=40u64).step_by(every).chain([255, 256, 300, 4095, 4096, 4097]) {
-        for &kind in &kinds {
+pub fn listings() -> Vec<Case> {
+    let mut cases = Cases { list: Vec::new(), draws: Draws(7) };
+    for n in (0..=40u64).chain([255, 256, 300, 4095, 4096, 4097]) {
+        for kind in 0..13 {
             for (entries, scratch) in [(n, 8 * n), (n + 7, 8 * n + 1), (n / 2, 8 * n), (n, (8 * n).saturating_sub(1)), (0, 0)] {
                 cases.add(Case { call: LIST, kind, src: n, dst: entries, scratch, ..Case::default() });
             }
@@ -461,47 +452,30 @@ fn fit_table(cases: &mut Cases, n: u64, kind: u64) {
     for less in 0..2 {
         cases.add(Case { call: LIST, kind, src: n, scratch: 8 * n, ..Case::default() });
         let case = cases.list.last_mut().unwrap();
-        let count = stretches_of(&draw::line(case.levels, n as usize, kind, case.seed)).len() as u64;
+        let count = stretches_of(&draw::line(n as usize, kind, case.seed)).len() as u64;
         case.dst = count.saturating_sub(less);
     }
+}
+
+/// All cases, the small ones first, then those of the texts, then the enclosers, then those of lengths that mean fewer pixels, then those of the highest opening's two destinations.
+pub fn families() -> Vec<Case> {
+    let mut cases = Cases { list: Vec::new(), draws: Draws(20_250_607) };
+    for family in [lines_small, stretches_and_rows, lookups, gathers, openings, sums, summaries, frames_refused, lines_refused, frames_strided, lines_long, lines_of_large, frames_large] {
+        family(&mut cases);
+    }
+    for family in [sums_texts, inputs_whole, inputs_edited, inputs_numbers, inputs_refused, inputs_large, enclosers] {
+        family(&mut cases);
+    }
+    for family in [pixels_of_lengths, openings_slanted, openings_long, sums_shared, sums_slanted, roses_wide] {
+        family(&mut cases);
+    }
+    for family in [highest_rooms, highest_destinations, highest_refused, highest_limits, highest_drawn] {
+        family(&mut cases);
+    }
+    cases.list
 }
 
 fn stretches_and_rows(cases: &mut Cases) {
     stretches(cases);
     rows(cases);
-}
-
-type Family = fn(&mut Cases);
-
-/// Which file has a family.
-#[derive(PartialEq)]
-enum File {
-    Both,
-    Of8,
-    Of16,
-}
-
-/// All families, the small ones first, then those of the texts, then the enclosers, then those of lengths that mean fewer pixels, then those of the highest opening's two destinations, last those of 16 bits.
-/// A call that has no pixels, or whose pixels have one width, as the texts, is in the 8-bit file alone.
-const FAMILIES: [(Family, File); 37] = [
-    (lines_small, File::Both), (stretches_and_rows, File::Both), (lookups, File::Of8), (gathers, File::Both), (openings, File::Both), (sums, File::Both), (summaries, File::Of8),
-    (frames_refused, File::Both), (lines_refused, File::Both), (frames_strided, File::Both), (lines_long, File::Both), (lines_of_large, File::Both), (frames_large, File::Both),
-    (sums_texts, File::Of8), (inputs_whole, File::Of8), (inputs_edited, File::Of8), (inputs_numbers, File::Of8), (inputs_refused, File::Of8), (inputs_large, File::Of8),
-    (enclosers, File::Both),
-    (pixels_of_lengths, File::Of8), (openings_slanted, File::Both), (openings_long, File::Both), (sums_shared, File::Both), (sums_slanted, File::Both), (roses_wide, File::Both),
-    (highest_rooms, File::Both), (highest_destinations, File::Both), (highest_refused, File::Both), (highest_limits, File::Both), (highest_drawn, File::Both),
-    (counts_long, File::Both), (inputs_of_16_bits, File::Of8),
-    (levels_of_lines, File::Of16), (levels_of_stretches, File::Of16), (levels_of_frames, File::Of16), (sums_above_32_bits, File::Of16),
-];
-
-/// The cases of the file of a width.
-pub fn families(levels: u64) -> Vec<Case> {
-    let mut cases = Cases { levels, list: Vec::new(), draws: Draws(20_250_607) };
-    let other = if levels == LEVELS16 { File::Of8 } else { File::Of16 };
-    for (family, file) in FAMILIES {
-        if file != other {
-            family(&mut cases);
-        }
-    }
-    cases.list
 }

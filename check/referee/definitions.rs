@@ -1,9 +1,6 @@
 // What the board computes, by the definitions of the specification taken literally: each function quotes the sentence that it renders.
 // Nothing here is fast, and nothing here knows how the library works. `native.rs` and `referee.rs` share it.
 
-/// A pixel of either width. 'Demands 2 and 3 read the same at both widths': a line of 8-bit levels is one of 16-bit levels.
-pub type Pixel = u16;
-
 /// A frame's width, height and stride.
 #[derive(Clone, Copy)]
 pub struct Shape {
@@ -37,12 +34,12 @@ impl Shape {
         (1..=4096).contains(&self.width) && (1..=4096).contains(&self.height) && (self.width..=65535).contains(&self.stride)
     }
 
-    /// 'The slice needs (H−1)·stride + W bytes', 'with stride, size and need counted in pixels'.
-    pub fn needed(self) -> u64 {
+    /// 'The slice needs (H−1)·stride + W bytes'
+    pub fn bytes(self) -> u64 {
         (self.height - 1) * self.stride + self.width
     }
 
-    /// 'Pixel (x, y) is the byte at y·stride + x', or the 16-bit number there.
+    /// 'Pixel (x, y) is the byte at y·stride + x'
     pub fn place(self, x: u64, y: u64) -> usize {
         (y * self.stride + x) as usize
     }
@@ -111,12 +108,12 @@ pub fn lines(shape: Shape, d: Direction) -> std::collections::BTreeMap<i64, Vec<
 }
 
 /// The pixels of a frame at the given places.
-pub fn pixels(src: &[Pixel], shape: Shape, places: &[(u64, u64)]) -> Vec<Pixel> {
+pub fn pixels(src: &[u8], shape: Shape, places: &[(u64, u64)]) -> Vec<u8> {
     places.iter().map(|&(x, y)| src[shape.place(x, y)]).collect()
 }
 
 /// 'Erosion has n − L + 1 values; value i is the least of pixels i to i+L−1. Where n < L it has none'
-pub fn eroded(line: &[Pixel], length: u64) -> Vec<Pixel> {
+pub fn eroded(line: &[u8], length: u64) -> Vec<u8> {
     if (line.len() as u64) < length {
         return Vec::new();
     }
@@ -124,13 +121,13 @@ pub fn eroded(line: &[Pixel], length: u64) -> Vec<Pixel> {
 }
 
 /// 'Dilation of m values has m + L − 1; value x is the greatest of those values i that exist with x−L+1 ≤ i ≤ x.'
-pub fn dilated(values: &[Pixel], length: u64) -> Vec<Pixel> {
+pub fn dilated(values: &[u8], length: u64) -> Vec<u8> {
     let (m, length) = (values.len(), length as usize);
     (0..m + length - 1).map(|x| (0..m).filter(|&i| x < i + length && i <= x).map(|i| values[i]).max().unwrap()).collect()
 }
 
 /// 'Opening: at each pixel the greatest erosion value over the windows that hold it; 0 at every pixel where n < L.'
-pub fn opened(line: &[Pixel], length: u64) -> Vec<Pixel> {
+pub fn opened(line: &[u8], length: u64) -> Vec<u8> {
     let mut result = vec![0; line.len()];
     for (start, &darkest) in eroded(line, length).iter().enumerate() {
         for pixel in &mut result[start..start + length as usize] {
@@ -140,8 +137,8 @@ pub fn opened(line: &[Pixel], length: u64) -> Vec<Pixel> {
     result
 }
 
-/// 'A frame is opened line by line in one direction.' 'For a frame call, length L in direction (p, q) now means k pixels'. What of the destination is no pixel of the frame stays.
-pub fn open_frame(src: &[Pixel], shape: Shape, d: Direction, length: u64, dst: &mut [Pixel]) {
+/// 'A frame is opened line by line in one direction.' 'For a frame call, length L in direction (p, q) now means k pixels'. The destination's bytes that are no pixel stay.
+pub fn open_frame(src: &[u8], shape: Shape, d: Direction, length: u64, dst: &mut [u8]) {
     let count = d.pixels_for(length);
     for places in lines(shape, d).values() {
         let values = opened(&pixels(src, shape, places), count);
@@ -152,11 +149,11 @@ pub fn open_frame(src: &[Pixel], shape: Shape, d: Direction, length: u64, dst: &
 }
 
 /// 'The highest opening takes, at each pixel, the greatest over the sixteen; the direction frame holds the lowest number that reaches it.'
-/// 'Make it one call with two destinations': what of either is no pixel of the frame stays. 'The direction frame stays one byte a pixel.'
-pub fn sixteen(src: &[Pixel], shape: Shape, length: u64, dst: &mut [Pixel], directions: &mut [u8]) {
-    let openings: Vec<Vec<Pixel>> = (0..16)
+/// 'Make it one call with two destinations': the bytes of either that are no pixel stay.
+pub fn sixteen(src: &[u8], shape: Shape, length: u64, dst: &mut [u8], directions: &mut [u8]) {
+    let openings: Vec<Vec<u8>> = (0..16)
         .map(|n| {
-            let mut opened = vec![0; shape.needed() as usize];
+            let mut opened = vec![0; shape.bytes() as usize];
             open_frame(src, shape, numbered(n), length, &mut opened);
             opened
         })
@@ -172,10 +169,10 @@ pub fn sixteen(src: &[Pixel], shape: Shape, length: u64, dst: &mut [Pixel], dire
 
 /// 'A stretch of a line is a start a and an end b .. Its level is its darkest pixel; each of pixels a−1 and b that exists is darker than the level.
 /// Its base is the brighter of those two, and 0 for the whole line.' Start, end, level, base, 'ordered by end, and among equal ends by descending start'.
-pub fn stretches(line: &[Pixel]) -> Vec<[u64; 4]> {
+pub fn stretches(line: &[u8]) -> Vec<[u64; 4]> {
     let mut list = Vec::new();
     for end in 1..=line.len() {
-        let mut level = Pixel::MAX;
+        let mut level = 255;
         for start in (0..end).rev() {
             level = level.min(line[start]);
             let before = if start > 0 { Some(line[start - 1]) } else { None };
@@ -204,13 +201,13 @@ fn encloser(list: &[[u64; 4]], place: usize, pixels: usize) -> usize {
 }
 
 /// 'Add a fifth number to each stretch record': start, end, level, base, encloser.
-pub fn nested(line: &[Pixel]) -> Vec<[u64; 5]> {
+pub fn nested(line: &[u8]) -> Vec<[u64; 5]> {
     let list = stretches(line);
     let record = |(place, &[start, end, level, base]): (usize, &[u64; 4])| [start, end, level, base, encloser(&list, place, line.len()) as u64];
     list.iter().enumerate().map(record).collect()
 }
 
-fn total(line: &[Pixel]) -> u64 {
+fn total(line: &[u8]) -> u64 {
     line.iter().map(|&pixel| pixel as u64).sum()
 }
 
@@ -221,21 +218,21 @@ fn bins_and_rest(by_length: &[u64]) -> Vec<u64> {
 }
 
 /// 'The sum for a length is the total of the opened pixels.' 'Line calls still count pixels.'
-pub fn sums_of_line(line: &[Pixel], bins: u64) -> Vec<u64> {
+pub fn sums_of_line(line: &[u8], bins: u64) -> Vec<u64> {
     let by_length: Vec<u64> = (1..=bins + 1).map(|length| total(&opened(line, length))).collect();
     bins_and_rest(&by_length)
 }
 
 /// The size sums of a frame in one direction 'take the sum for each length with that length's k', the rest with that of K+1 ('4,097 is meant here too').
-pub fn sums_of_frame(src: &[Pixel], shape: Shape, d: Direction, bins: u64) -> Vec<u64> {
-    let lines: Vec<Vec<Pixel>> = lines(shape, d).values().map(|places| pixels(src, shape, places)).collect();
+pub fn sums_of_frame(src: &[u8], shape: Shape, d: Direction, bins: u64) -> Vec<u64> {
+    let lines: Vec<Vec<u8>> = lines(shape, d).values().map(|places| pixels(src, shape, places)).collect();
     let sum_for = |count: u64| -> u64 { lines.iter().map(|line| total(&opened(line, count))).sum() };
     let by_length: Vec<u64> = (1..=bins + 1).map(|length| sum_for(d.pixels_for(length))).collect();
     bins_and_rest(&by_length)
 }
 
 /// 'The rose of a frame is sixteen rows of 33 sums .. row d has 32 bins and the rest of numbered direction d.'
-pub fn rose(src: &[Pixel], shape: Shape) -> Vec<Vec<u64>> {
+pub fn rose(src: &[u8], shape: Shape) -> Vec<Vec<u64>> {
     (0..16).map(|n| sums_of_frame(src, shape, numbered(n), 32)).collect()
 }
 

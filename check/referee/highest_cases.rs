@@ -2,7 +2,6 @@
 
 use crate::cases::{broken, sets_of_rules, Case, Cases, HIGHEST};
 use crate::definitions::Shape;
-use crate::draw::KINDS;
 
 /// Width and height: sides of 1; pixels fewer than the bytes that rule 7 asks, just as many, and more; long sides on and about powers of two.
 const SIDES: [(u64, u64); 34] = [
@@ -31,8 +30,8 @@ fn rooms(sides: (u64, u64)) -> Vec<u64> {
 fn fitted(cases: &mut Cases, (width, height): (u64, u64), gap: u64) -> Case {
     let (longer, stride) = (width.max(height), width + gap);
     let length = [1, 2, 3, 5, 4, 8, longer, 2 * longer, 6][cases.list.len() % 9];
-    let needed = Shape { width, height, stride }.needed();
-    Case { call: HIGHEST, kind: cases.draws.below(KINDS), width, height, stride, length, src: needed, dst: needed, directions: needed, scratch: least((width, height)), ..Case::default() }
+    let bytes = Shape { width, height, stride }.bytes();
+    Case { call: HIGHEST, kind: cases.draws.below(7), width, height, stride, length, src: bytes, dst: bytes, directions: bytes, scratch: least((width, height)), ..Case::default() }
 }
 
 /// Frames with a gap and without, and scratch of every size about the two that count.
@@ -47,7 +46,7 @@ pub fn highest_rooms(cases: &mut Cases) {
     }
 }
 
-/// Both destinations just fit, are one pixel or a few longer, one pixel too short, and empty, in every combination; with the least scratch, and with room for the frame's pixels.
+/// Both destinations just fit, are one byte or a few longer, one byte too short, and empty, in every combination; with the least scratch, and with room for the frame's pixels.
 pub fn highest_destinations(cases: &mut Cases) {
     for (sides, gap) in [((1, 1), 0), ((5, 4), 1), ((10, 12), 0), ((21, 15), 2)] {
         for pair in 0..25 {
@@ -86,6 +85,6 @@ pub fn highest_drawn(cases: &mut Cases) {
         let rooms = rooms((drawn.width, drawn.height));
         let scratch = rooms[cases.draws.within(1, rooms.len() as u64 - 1) as usize];
         let directions = drawn.directions + cases.draws.below(3);
-        cases.add(Case { kind: i % KINDS, directions, scratch, ..drawn });
+        cases.add(Case { kind: i % 7, directions, scratch, ..drawn });
     }
 }

@@ -1,9 +1,9 @@
 // The marked examples of the specification, P1 to P12, and those of the two programs, and the examples of order 2: the referee holds its own definitions to them before it writes anything.
 
-use crate::definitions::{dilated, eroded, lines, nested, opened, sums_of_frame, sums_of_line, Direction, Pixel, Shape};
+use crate::definitions::{dilated, eroded, lines, nested, opened, sums_of_frame, sums_of_line, Direction, Shape};
 use crate::texts::{input_text, read, sums_text, Input};
 
-const LINE: [Pixel; 5] = [3, 5, 5, 2, 4];
+const LINE: [u8; 5] = [3, 5, 5, 2, 4];
 
 /// P1 to P6.
 fn windows_hold() -> bool {
@@ -32,7 +32,7 @@ fn lines_hold() -> bool {
 /// The input of the two programs, and what the program sums prints of it.
 fn texts_hold() -> bool {
     let text = "D\t0\nF\t5\t1\nR\t3\t5\t5\t2\t4\n";
-    let frame = Input { direction: 0, width: 5, height: 1, bits: 8, pixels: LINE.to_vec() };
+    let frame = Input { direction: 0, width: 5, height: 1, pixels: LINE.to_vec() };
     input_text(&frame) == text && read(text.as_bytes()) == Ok(frame) && sums_text(0, &sums_of_frame(&LINE, Shape { width: 5, height: 1, stride: 5 }, Direction { p: 1, q: 0 }, 3)) == "G\t0\t3\nB\t1\t2\nB\t2\t4\nB\t3\t3\nT\t10\n"
 }
 

@@ -1,5 +1,5 @@
 // The refusal table: for each call the rules that apply to it, in the table's order, each with its number and figure.
-// A call is refused by the first broken rule. All sizes are those of the buffers as lent: of sources and destinations in pixels ('5 and 6 count pixels for these calls'), of scratch in bytes.
+// A call is refused by the first broken rule. All sizes are those of the buffers as lent.
 
 use crate::definitions::{lines, Direction, Shape};
 
@@ -46,12 +46,7 @@ pub fn enclosers(n: u64, places: u64, scratch: u64) -> bool {
     n > 4096 || places < n || scratch < 4 * n
 }
 
-/// The count has no number either: at 16 bits, of a line 'of more than 4,096 pixels' it 'is 0'; at 8 bits 'it counts a line of any length'.
-pub fn count(levels: u64, n: u64) -> bool {
-    levels > 256 && n > 4096
-}
-
-/// What a frame's scratch needs: 'scratch shorter than 8·max(W, H) bytes'; it 'stays 8 bytes a pixel of the longer side'.
+/// What a frame's scratch needs: 'scratch shorter than 8·max(W, H) bytes'.
 fn scratch_for(shape: Shape) -> u64 {
     8 * shape.width.max(shape.height)
 }
@@ -68,7 +63,7 @@ fn no_shape_or_direction(shape: Shape, d: Direction) -> Option<Refusal> {
 pub fn gather(shape: Shape, d: Direction, line: i64, src: u64, dst: u64) -> Option<Refusal> {
     no_shape_or_direction(shape, d).or_else(|| {
         let count = pixels_on(shape, d, line);
-        first_broken(&[(count == 0, 2, 0), (src < shape.needed(), 5, shape.needed()), (dst < count, 6, count)])
+        first_broken(&[(count == 0, 2, 0), (src < shape.bytes(), 5, shape.bytes()), (dst < count, 6, count)])
     })
 }
 
@@ -76,15 +71,15 @@ pub fn gather(shape: Shape, d: Direction, line: i64, src: u64, dst: u64) -> Opti
 pub fn scatter(shape: Shape, d: Direction, line: i64, src: u64, dst: u64) -> Option<Refusal> {
     no_shape_or_direction(shape, d).or_else(|| {
         let count = pixels_on(shape, d, line);
-        first_broken(&[(count == 0, 2, 0), (src < count, 5, count), (dst < shape.needed(), 6, shape.needed())])
+        first_broken(&[(count == 0, 2, 0), (src < count, 5, count), (dst < shape.bytes(), 6, shape.bytes())])
     })
 }
 
 /// Rules 5, 6 and 7 of a frame that rule 1 accepts: one rule 6 for each destination, in their order.
 fn buffers(shape: Shape, src: u64, destinations: &[u64], scratch: u64) -> Option<Refusal> {
-    let (needed, room) = (shape.needed(), scratch_for(shape));
-    let mut rules = vec![(src < needed, 5, needed)];
-    rules.extend(destinations.iter().map(|&dst| (dst < needed, 6, needed)));
+    let (bytes, room) = (shape.bytes(), scratch_for(shape));
+    let mut rules = vec![(src < bytes, 5, bytes)];
+    rules.extend(destinations.iter().map(|&dst| (dst < bytes, 6, bytes)));
     rules.push((scratch < room, 7, room));
     first_broken(&rules)
 }

@@ -2,7 +2,6 @@
 
 use crate::cases::{directions, Case, Cases, HIGHEST, OPEN_FRAME, PIXELS_FOR, REFUSED, ROSE, SUMS_OF_FRAME};
 use crate::definitions::{lines, Direction, Shape};
-use crate::draw::KINDS;
 
 /// Pairs whose p² + q² is a square, in every quarter: there a count can meet its length exactly, where it must not be one more.
 const EXACT: [(i64, i64); 4] = [(5, 12), (-20, 21), (255, -136), (-24, -7)];
@@ -64,14 +63,14 @@ pub fn openings_slanted(cases: &mut Cases) {
         let drawn = cases.frame_of(HIGHEST, 16, 40);
         let length = cases.draws.within(5, drawn.width.min(drawn.height) * 4 / 3);
         let more = if i % 2 == 1 { drawn.width * drawn.height } else { 0 };
-        cases.add(Case { kind: i % KINDS, length, scratch: drawn.scratch + more, ..drawn });
+        cases.add(Case { kind: i % 7, length, scratch: drawn.scratch + more, ..drawn });
     }
 }
 
 /// A frame of one level with no gap, and buffers that just fit.
 fn level(call: u64, (width, height): (u64, u64), length: u64) -> Case {
-    let pixels = width * height;
-    Case { call, kind: 5, width, height, stride: width, length, src: pixels, dst: pixels, scratch: 8 * width.max(height), ..Case::default() }
+    let bytes = width * height;
+    Case { call, kind: 5, width, height, stride: width, length, src: bytes, dst: bytes, scratch: 8 * width.max(height), ..Case::default() }
 }
 
 /// Long windows, each with the length one shorter and one longer too: at (255, 11) no length below 1,078 means fewer pixels than it counts, and that one means 1,077.
@@ -136,6 +135,6 @@ pub fn sums_slanted(cases: &mut Cases) {
 pub fn roses_wide(cases: &mut Cases) {
     for i in 0..21 {
         let drawn = cases.frame_of(ROSE, 33, 56);
-        cases.add(Case { kind: i % KINDS, length: 0, ..drawn });
+        cases.add(Case { kind: i % 7, length: 0, ..drawn });
     }
 }

@@ -1,12 +1,12 @@
 // The cases of the texts of the two programs: sums texts, and inputs in their form and out of it.
-// An input stands in its case byte by byte; one too long for that goes on as it ends, row after equal row. The texts have one width, and these cases stand in the 8-bit file alone.
+// An input stands in its case byte by byte; one too long for that goes on as it ends, row after equal row.
 
 use crate::cases::{Case, Cases, READ_INPUT, SUMS_TEXT};
-use crate::draw::{self, KINDS, LEVELS16, LEVELS8};
+use crate::draw;
 use crate::texts::{input_text, line_text, sums_text, Input};
 
 /// The kinds of sums that a case can have.
-const KINDS_OF_SUMS: u64 = 12;
+const KINDS: u64 = 12;
 
 /// What is put into a text, or in the place of one of its bytes: digits, what parts and ends, a carriage return, signs, letters, the bytes next to the digits, and bytes that are no text.
 const STRAY: [u8; 13] = [b'0', b'1', b'9', b'\t', b'\n', b'\r', b'-', b' ', b'/', b':', b'R', 0, 255];
@@ -24,7 +24,7 @@ fn sums_fitted(cases: &mut Cases, kind: u64, direction: u64, entries: u64, more:
 
 /// Sums of every kind: 1 to 39 bins, about the lengths where a bin's number has a digit more, and 4,095 and 4,096 bins; every direction; every set of broken rules.
 pub fn sums_texts(cases: &mut Cases) {
-    for kind in 0..KINDS_OF_SUMS {
+    for kind in 0..KINDS {
         for entries in [2, 3, 4, 5, 10, 11, 12, 33, 40] {
             for more in [0, -1, 5] {
                 sums_fitted(cases, kind, (kind + entries) % 16, entries, more);
@@ -54,49 +54,39 @@ fn input(cases: &mut Cases, text: impl AsRef<[u8]>, dst: u64) {
 }
 
 /// A frame of at most `most` pixels a side.
-fn drawn_input(cases: &mut Cases, bits: u64, most: u64) -> Input {
+fn drawn_input(cases: &mut Cases, most: u64) -> Input {
     let d = &mut cases.draws;
     let (direction, width, height) = (d.below(16), d.within(1, most), d.within(1, most));
-    let (kind, seed) = (d.below(KINDS), d.below(1 << 20));
-    let levels = if bits == 16 { LEVELS16 } else { LEVELS8 };
-    Input { direction, width, height, bits, pixels: draw::pixels(levels, (width * height) as usize, kind, seed) }
+    let (kind, seed) = (d.below(7), d.below(1 << 20));
+    Input { direction, width, height, pixels: draw::bytes((width * height) as usize, kind, seed) }
 }
 
-/// A frame in its form, into destinations that just fit, are one pixel short, and are longer.
-fn whole(cases: &mut Cases, bits: u64, most: u64) {
-    let frame = drawn_input(cases, bits, most);
-    for dst in [frame.width * frame.height, frame.width * frame.height - 1, frame.width * frame.height + 3] {
-        input(cases, input_text(&frame), dst);
-    }
-}
-
-/// Small frames in their form.
+/// Small frames in their form, into destinations that just fit, are one byte short, and are longer.
 pub fn inputs_whole(cases: &mut Cases) {
     for i in 0..70 {
-        whole(cases, 8, if i < 60 { 4 } else { 9 });
-    }
-}
-
-/// An input with each byte left out, each end cut off, and each stray byte at each place, put in and in the place of another.
-fn edited(cases: &mut Cases, text: &str, strays: &[u8]) {
-    let text = text.as_bytes();
-    for at in 0..text.len() {
-        input(cases, &text[..at], 12);
-        input(cases, [&text[..at], &text[at + 1..]].concat(), 12);
-        for stray in strays {
-            input(cases, [&text[..at], &[*stray], &text[at..]].concat(), 12);
-            input(cases, [&text[..at], &[*stray], &text[at + 1..]].concat(), 12);
+        let frame = drawn_input(cases, if i < 60 { 4 } else { 9 });
+        for dst in [frame.width * frame.height, frame.width * frame.height - 1, frame.width * frame.height + 3] {
+            input(cases, input_text(&frame), dst);
         }
     }
-    for stray in STRAY {
-        input(cases, [text, &[stray]].concat(), 12);
-    }
 }
 
-/// Two inputs, edited in every place.
+/// Two inputs with each byte left out, each end cut off, and each stray byte at each place, put in and in the place of another.
 pub fn inputs_edited(cases: &mut Cases) {
-    edited(cases, "D\t0\nF\t5\t1\nR\t3\t5\t5\t2\t4\n", &STRAY);
-    edited(cases, "D\t10\nF\t2\t2\nR\t0\t255\nR\t99\t100\n", &STRAY[..6]);
+    for (text, strays) in [("D\t0\nF\t5\t1\nR\t3\t5\t5\t2\t4\n", &STRAY[..]), ("D\t10\nF\t2\t2\nR\t0\t255\nR\t99\t100\n", &STRAY[..6])] {
+        let text = text.as_bytes();
+        for at in 0..text.len() {
+            input(cases, &text[..at], 12);
+            input(cases, [&text[..at], &text[at + 1..]].concat(), 12);
+            for stray in strays {
+                input(cases, [&text[..at], &[*stray], &text[at..]].concat(), 12);
+                input(cases, [&text[..at], &[*stray], &text[at + 1..]].concat(), 12);
+            }
+        }
+        for stray in STRAY {
+            input(cases, [text, &[stray]].concat(), 12);
+        }
+    }
 }
 
 /// Directions, widths and heights on and about their limits, and fields that are no number in the place of each number of a text.
@@ -135,10 +125,9 @@ pub fn inputs_refused(cases: &mut Cases) {
     }
 }
 
-/// A frame of equal rows, with `more` bytes of text than its form has and `room` more of destination than its pixels. Behind the direction, `head` has the `F` line's third field, if any.
-fn equal_rows(cases: &mut Cases, head: &[u64], row: &[u64], height: u64, more: i64, room: i64) {
-    let sides = [&[row.len() as u64, height], &head[1..]].concat();
-    let (head, line) = (line_text('D', &head[..1]) + &line_text('F', &sides), line_text('R', row));
+/// A frame of equal rows, with `more` bytes of text than its form has and `room` more of destination than its pixels.
+fn equal_rows(cases: &mut Cases, direction: u64, row: &[u64], height: u64, more: i64, room: i64) {
+    let (head, line) = (line_text('D', &[direction]) + &line_text('F', &[row.len() as u64, height]), line_text('R', row));
     let (period, given) = (line.len() as u64, (head + &line).into_bytes());
     let bytes = given.len() as u64 + (height - 1) * period;
     let dst = (row.len() as u64 * height).saturating_add_signed(room);
@@ -155,44 +144,17 @@ fn row_of(width: u64, bytes: u64) -> Vec<u64> {
 pub fn inputs_large(cases: &mut Cases) {
     let row = |width: u64| -> Vec<u64> { (0..width).map(|x| x % 10).collect() };
     for (width, more, room) in [(4096, 0, 0), (4096, 0, -1), (4096, -1, 0), (4097, 0, 0)] {
-        equal_rows(cases, &[5], &row(width), 1, more, room);
+        equal_rows(cases, 5, &row(width), 1, more, room);
     }
     for (width, height) in [(1, 4096), (1, 4097), (7, 4095), (7, 4096), (255, 127), (255, 128)] {
         for (more, room) in [(0, 0), (0, -1), (0, 9), (-1, 0), (1, 0)] {
-            equal_rows(cases, &[5], &row(width), height, more, room);
+            equal_rows(cases, 5, &row(width), height, more, room);
         }
     }
     // 14 bytes of head and 362 rows of 181, or 15 and 181 of 362
     for (width, height, row_bytes, bytes) in [(50, 362, 181, 65536), (110, 181, 362, 65537)] {
         for (more, room) in [(0, 0), (0, -1), (-1, 0), (1, 0)] {
-            equal_rows(cases, &[10], &row_of(width, row_bytes), height, more, room);
-            assert_eq!(cases.list.last().unwrap().src, u64::saturating_add_signed(bytes, more));
-        }
-    }
-}
-
-/// Third fields of the `F` line: 16, other numbers, what is no number, and more than one.
-const THIRD: [&str; 16] = ["\t16", "", "\t8", "\t0", "\t17", "\t15", "\t016", "\t160", "\t1", "\t6", "\t-16", "\t16 ", "\t", "\t65552", "\t16\t16", "\t16\t"];
-
-/// Inputs of 16 bits: frames in their form; one edited in every place; third fields right and wrong, each with pixels on and about the limits of both widths, with sides and directions that are refused;
-/// texts of 65,536 bytes and of one more.
-pub fn inputs_of_16_bits(cases: &mut Cases) {
-    for i in 0..30 {
-        whole(cases, 16, if i < 24 { 4 } else { 9 });
-    }
-    edited(cases, "D\t3\nF\t2\t1\t16\nR\t256\t65535\n", &STRAY[..6]);
-    for third in THIRD {
-        for pixel in ["0", "255", "256", "257", "999", "1000", "32768", "65535", "65536", "65537", "70000", "99999", "100000", "131071", "0255", "00256", "065535", "4294967551"] {
-            input(cases, format!("D\t7\nF\t2\t2{third}\nR\t1\t{pixel}\nR\t3\t4\n"), 4);
-        }
-        for (direction, width, height) in [(16, 2, 1), (7, 0, 1), (7, 2, 4097), (16, 4097, 0)] {
-            input(cases, format!("D\t{direction}\nF\t{width}\t{height}{third}\nR\t256\t4\n"), 1);
-        }
-    }
-    // 16 bytes of head and 273 rows of 240, or 17 and 35 of 1,872
-    for (direction, width, height, row_bytes, bytes) in [(9, 40, 273, 240, 65536), (10, 316, 35, 1872, 65537)] {
-        for (more, room) in [(0, 0), (0, -1), (-1, 0), (1, 0)] {
-            equal_rows(cases, &[direction, 16], &row_of(width, row_bytes), height, more, room);
+            equal_rows(cases, 10, &row_of(width, row_bytes), height, more, room);
             assert_eq!(cases.list.last().unwrap().src, u64::saturating_add_signed(bytes, more));
         }
     }

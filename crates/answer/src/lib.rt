@@ -11,11 +11,6 @@ pub const WIDEST: usize = 65535;
 // The largest number of a direction's pair, its sign apart.
 pub const STEEPEST: i64 = 255;
 
-// The greatest level of a pixel of 8 bits, and of one of 16.
-pub const BRIGHTEST8: usize = 255;
-
-pub const BRIGHTEST16: usize = 65535;
-
 // The number of the rule that refused the call, 0 where it is done; and the figure that goes with it.
 #[repr(C)]
 #[derive(Drop)]

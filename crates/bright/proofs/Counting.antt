@@ -4,23 +4,20 @@
 --   tally_pop, -none, -push, -same    what one pixel does to that number
 --   levels_in a d               the first d levels in an array, the last on top
 --   rising ls                   each level is at least as high as there are levels below it
---   count-all, count_none       what `count` hands back
 --   Going                       where a count stands; going_start, -first, -pop, -room, -push, -same, -end
 -- Assumes nothing.
 use mathlib.Core.Path.{◌≡◌, refl, sym, ap, ◌∙◌}
 use mathlib.Core.Bool.{Bool, true, false, cond}
 use mathlib.Core.List.{List, [], ◌∷◌}
-use Prim.Native.Nat.{ℕ, zero, suc, ◌+◌, ◌-◌, ◌≤◌, ◌<◌, min, max}
+use Prim.Native.Nat.{ℕ, zero, suc, ◌+◌, ◌-◌, ◌≤◌, ◌<◌, max}
 use native.Mathlib.Nat.{le_refl}
 use native.Mathlib.Omega.{arith}
 use lib.Dec.{ltb}
 use lib.ListN.{length, get_or, set, drop, length-append, length-set, drop_of_length-le}
 use lib.Seq.{drop-cons, get_or-set_same, get_or-set_other}
-use borrow.Author.Tests.{lt-ltb, le-ltb, lt-leb, le-leb, leb-false}
-use Rattle.answer.specs.Limits.{longest}
+use borrow.Author.Tests.{lt-ltb, le-ltb, leb-false}
 use Rattle.bright.specs.Stretches.{stretches}
 use Rattle.bright.specs.Reading.{Run, top_level, top_holds, closed, ended, settled, climbed, ending, todo}
-use Rattle.bright.specs.Listing.{count_of}
 use Rattle.bright.proofs.Model.{todo-stretches}
 
 abbrev levels : List Run → List ℕ
@@ -181,37 +178,35 @@ levels_in_top a (suc d) h =
     let e : suc d - 1 ≡ d = omega arith in
     rw e
 
--- where a count stands, with a place for each run that can be open at once: their levels rise, and each has a pixel of its own
-pub record Going (brightest places : ℕ) (f a : List ℕ) (depth total read : ℕ) : Type 0 where
-  pub enough : min (suc brightest) (length f) ≤ places
+-- where a count stands, with a place for each of `most` levels
+pub record Going (most : ℕ) (f a : List ℕ) (depth total read : ℕ) : Type 0 where
   pub inside : read ≤ length f
-  pub size : length a ≡ places
+  pub size : length a ≡ most
   pub few : total + depth ≤ read
-  pub deep : depth ≤ places
+  pub places : depth ≤ most
   pub rise : rising (levels_in a depth)
   pub sum : total + tally (drop read f) (levels_in a depth) ≡ length (stretches f)
 
-pub going_start : (brightest places : ℕ) (f a : List ℕ) → length a ≡ places → min (suc brightest) (length f) ≤ places → Going brightest places f a 0 0 0
+pub going_start : (most : ℕ) (f a : List ℕ) → length a ≡ most → Going most f a 0 0 0
 unfolding levels_in rising
-going_start brightest places f a h k = record { enough = k; inside = omega arith; size = h; few = omega arith; deep = omega arith; rise = tt; sum = omega (arith, stretches-count f) }
+going_start most f a h = record { inside = omega arith; size = h; few = omega arith; places = omega arith; rise = tt; sum = omega (arith, stretches-count f) }
 
-module _ (brightest places : ℕ) (f a : List ℕ) (depth total read v : ℕ) (g : Going brightest places f a depth total read) (h : read < length f) (e : v ≡ get_or f read 0) where
+module _ (most : ℕ) (f a : List ℕ) (depth total read v : ℕ) (g : Going most f a depth total read) (h : read < length f) (e : v ≡ get_or f read 0) where
   next-pixel : drop read f ≡ v ∷ drop (read + 1) f
   next-pixel =
       let s : read + 1 ≡ suc read = omega arith in
       rw (s, e) (drop-cons f read 0 h)
 
-  pub going-first : v ≤ brightest → depth ≡ 0 → Going brightest places f (set a depth v) 1 total (read + 1)
+  pub going-first : v < most → depth ≡ 0 → Going most f (set a 0 v) 1 total (read + 1)
   unfolding levels_in rising
   going-first b z =
       let p : levels_in (set a 0 v) 1 ≡ v ∷ [] = rw (get_or-set_same a 0 v 0 (omega (arith, g.size))) in
       let s : total + tally (v ∷ drop (read + 1) f) [] ≡ length (stretches f) = rw (z, next-pixel) at g.sum in
-      rw z record {
-        enough = g.enough;
+      record {
         inside = omega arith;
         size = length-set a 0 v ∙ g.size;
         few = omega (arith, g.few);
-        deep = omega arith;
+        places = omega arith;
         rise = rw (get_or-set_same a 0 v 0 (omega (arith, g.size))) (omega arith, tt);
         sum = rw p (omega (arith, tally-none v (drop (read + 1) f)));
       }
@@ -224,58 +219,48 @@ module _ (brightest places : ℕ) (f a : List ℕ) (depth total read v : ℕ) (g
     top-sum : total + tally (v ∷ drop (read + 1) f) (get_or a (depth - 1) 0 ∷ levels_in a (depth - 1)) ≡ length (stretches f)
     top-sum = rw (levels_in_top a depth z, next-pixel) at g.sum
 
-    pub going_pop : v < get_or a (depth - 1) 0 → Going brightest places f a (depth - 1) (total + 1) read
+    pub going_pop : v < get_or a (depth - 1) 0 → Going most f a (depth - 1) (total + 1) read
     going_pop k =
         record {
-          enough = g.enough;
           inside = omega arith;
           size = g.size;
           few = omega (arith, g.few);
-          deep = omega (arith, g.deep);
+          places = omega (arith, g.places);
           rise = top-rise.1;
           sum = rw next-pixel (omega (arith, top-sum, tally_pop v (drop (read + 1) f) (get_or a (depth - 1) 0) (levels_in a (depth - 1)) k));
         }
 
-    pub going-room : v ≤ brightest → get_or a (depth - 1) 0 < v → depth < places
-    going-room b k = omega (arith, top-rise.0, levels_in_length a (depth - 1), g.enough, g.few)
+    pub going-room : v < most → get_or a (depth - 1) 0 < v → depth < most
+    going-room b k = omega (arith, top-rise.0, levels_in_length a (depth - 1))
 
-    pub going_push : v ≤ brightest → get_or a (depth - 1) 0 < v → Going brightest places f (set a depth v) (depth + 1) total (read + 1)
+    pub going_push : v < most → get_or a (depth - 1) 0 < v → Going most f (set a depth v) (depth + 1) total (read + 1)
     unfolding rising
     going_push b k =
         let q : depth < length a = omega (arith, going-room b k, g.size) in
         let o : levels_in (set a depth v) (depth + 1) ≡ v ∷ (get_or a (depth - 1) 0 ∷ levels_in a (depth - 1)) =
         levels_in_push a v depth q ∙ ap (λ (x : List ℕ). v ∷ x) (levels_in_top a depth z) in
         record {
-          enough = g.enough;
           inside = omega arith;
           size = length-set a depth v ∙ g.size;
           few = omega (arith, g.few);
-          deep = omega (arith, going-room b k);
+          places = omega (arith, going-room b k);
           rise = rw o (omega (arith, top-rise.0), top-rise);
           sum = rw o (omega (arith, top-sum, tally_push v (drop (read + 1) f) (get_or a (depth - 1) 0) (levels_in a (depth - 1)) k));
         }
 
-    pub going-same : v ≤ get_or a (depth - 1) 0 → get_or a (depth - 1) 0 ≤ v → Going brightest places f a depth total (read + 1)
+    pub going-same : v ≤ get_or a (depth - 1) 0 → get_or a (depth - 1) 0 ≤ v → Going most f a depth total (read + 1)
     going-same k l =
         record {
-          enough = g.enough;
           inside = omega arith;
           size = g.size;
           few = omega (arith, g.few);
-          deep = g.deep;
+          places = g.places;
           rise = g.rise;
           sum = rw (levels_in_top a depth z) (omega (arith, top-sum, tally-same v (drop (read + 1) f) (get_or a (depth - 1) 0) (levels_in a (depth - 1)) l k));
         }
 
--- what `count` hands back: the count, where it has places enough for the open runs
-pub count-all : (brightest : ℕ) (f : List ℕ) → min (suc brightest) (length f) ≤ longest → count_of brightest f ≡ length (stretches f)
-count-all brightest f h = rw (le-leb (min (suc brightest) (length f)) longest h)
-
-pub count_none : (brightest : ℕ) (f : List ℕ) → longest < min (suc brightest) (length f) → count_of brightest f ≡ 0
-count_none brightest f h = rw (lt-leb (min (suc brightest) (length f)) longest h)
-
-pub going_end : (brightest places : ℕ) (f a : List ℕ) (depth total read : ℕ) → Going brightest places f a depth total read → length f ≤ read → total + depth ≡ length (stretches f)
+pub going_end : (most : ℕ) (f a : List ℕ) (depth total read : ℕ) → Going most f a depth total read → length f ≤ read → total + depth ≡ length (stretches f)
 unfolding tally
-going_end brightest places f a depth total read g h =
+going_end most f a depth total read g h =
     let s : total + length (levels_in a depth) ≡ length (stretches f) = rw (drop_of_length-le f h) at g.sum in
     omega (arith, levels_in_length a depth)

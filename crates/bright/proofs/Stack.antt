@@ -1,44 +1,65 @@
 -- The open runs in the scratch: what a store does to them.
---   stack_put                 the run that is stored as number i is on top of the i before it
+--   stack_put8                the run that is stored as number i is on top of the i before it, pixels having eight bits
 --   stack_length              how many runs it holds, whatever the layout
 --   stack_top, stack_below    the run on top, and the runs below it, whatever the layout
 -- Assumes nothing.
 use mathlib.Core.Path.{◌≡◌, refl, ap}
 use mathlib.Core.List.{List, ◌∷◌}
-use mathlib.Core.Logic.{inl}
-use Prim.Native.Nat.{ℕ, zero, suc, ◌+◌, ◌-◌, ◌*◌, ◌%◌, ◌≤◌, ◌<◌}
-use native.Mathlib.Nat.{mod-eq_of_lt}
+use Prim.Native.Nat.{ℕ, zero, suc, ◌+◌, ◌-◌, ◌*◌, ◌/◌, ◌%◌, ◌≤◌, ◌<◌}
 use native.Mathlib.Omega.{arith}
-use lib.ListN.{length}
+use lib.ListN.{length, get_or, set, length-set}
+use lib.Seq.{get_or-set_same, get_or-set_other}
 use Rattle.bright.specs.Reading.{Run}
-use Rattle.bright.specs.Generator.{Layout, put_pair, run_of, stack_of}
-use Rattle.bright.proofs.Pairs.{pair_kept, pair_put, pair_other}
+use Rattle.bright.specs.Generator.{Layout, run8, stack_of}
 
--- a pair stored behind the runs leaves them
-stack_kept : (brightest d : ℕ) (m : List ℕ) (i v : ℕ) → 4 * d ≤ i → stack_of (run_of brightest) (put_pair m i v) d ≡ stack_of (run_of brightest) m d
+-- a store behind the runs leaves them
+stack_set : (d : ℕ) (m : List ℕ) (i v : ℕ) → 4 * d ≤ i → stack_of run8 (set m i v) d ≡ stack_of run8 m d
 unfolding stack_of
-stack_kept brightest zero m i v h = refl
-stack_kept brightest (suc d) m i v h =
+stack_set zero m i v h = refl
+stack_set (suc d) m i v h =
     rw (
-      pair_other m i v (4 * d) (inl (omega arith)),
-      pair_other m i v (4 * d + 2) (inl (omega arith)),
-      stack_kept brightest d m i v (omega arith),
+      get_or-set_other m i (4 * d) v 0 (λ e. omega arith),
+      get_or-set_other m i (4 * d + 1) v 0 (λ e. omega arith),
+      get_or-set_other m i (4 * d + 2) v 0 (λ e. omega arith),
+      stack_set d m i v (omega arith),
     )
 
+-- three stores side by side, each read back
+abbrev three : List ℕ → ℕ → ℕ → ℕ → ℕ → List ℕ
+three m at x y z = set (set (set m at x) (at + 1) y) (at + 2) z
+
+module _ (m : List ℕ) (at x y z : ℕ) (h : at + 3 ≤ length m) where
+  three_0 : get_or (three m at x y z) at 0 ≡ x
+  three_0 =
+      rw (
+        get_or-set_other (set (set m at x) (at + 1) y) (at + 2) at z 0 (λ e. omega arith),
+        get_or-set_other (set m at x) (at + 1) at y 0 (λ e. omega arith),
+      )
+      (get_or-set_same m at x 0 (omega arith))
+
+  three_1 : get_or (three m at x y z) (at + 1) 0 ≡ y
+  three_1 =
+      rw (get_or-set_other (set (set m at x) (at + 1) y) (at + 2) (at + 1) z 0 (λ e. omega arith))
+      (get_or-set_same (set m at x) (at + 1) y 0 (simp length-set (omega arith)))
+
+  three_2 : get_or (three m at x y z) (at + 2) 0 ≡ z
+  three_2 = get_or-set_same (set (set m at x) (at + 1) y) (at + 2) z 0 (simp length-set (omega arith))
+
 -- the run that is stored as number i is on top of the i before it
-pub stack_put : (brightest : ℕ) (m : List ℕ) (i s l : ℕ) → 4 * i + 4 ≤ length m → l ≤ brightest
-    → stack_of (run_of brightest) (put_pair (put_pair m (4 * i) s) (4 * i + 2) l) (suc i) ≡ record { start = s; level = l } ∷ stack_of (run_of brightest) m i
+pub stack_put8 : (m : List ℕ) (i s l : ℕ) → 4 * i + 4 ≤ length m
+    → stack_of run8 (set (set (set m (4 * i) (s % 256)) (4 * i + 1) (s / 256)) (4 * i + 2) l) (suc i) ≡ record { start = s; level = l } ∷ stack_of run8 m i
 unfolding stack_of
-stack_put brightest m i s l h k =
-    let first = put_pair m (4 * i) s in
-    let small : l % suc brightest ≡ l = mod-eq_of_lt (omega arith) in
+stack_put8 m i s l h =
+    let e : s % 256 + 256 * (s / 256) ≡ s = omega arith in
+    let h₃ : 4 * i + 3 ≤ length m = omega arith in
     rw (
-      pair_other first (4 * i + 2) l (4 * i) (inl (omega arith)),
-      pair_put m (4 * i) s (omega arith),
-      pair_put first (4 * i + 2) l (omega (arith, pair_kept m (4 * i) s)),
-      small,
-      stack_kept brightest i first (4 * i + 2) l (omega arith),
-      stack_kept brightest i m (4 * i) s (omega arith),
+      three_0 m (4 * i) (s % 256) (s / 256) l h₃,
+      three_1 m (4 * i) (s % 256) (s / 256) l h₃,
+      three_2 m (4 * i) (s % 256) (s / 256) l h₃,
+      e,
+      stack_set i _ (4 * i + 2) l (omega arith),
+      stack_set i _ (4 * i + 1) (s / 256) (omega arith),
+      stack_set i _ (4 * i) (s % 256) (omega arith),
     )
 
 pub stack_length : (run : Layout) (m : List ℕ) (d : ℕ) → length (stack_of run m d) ≡ d

@@ -2,8 +2,7 @@
 --   pair_at m i           the number of two bytes at i, the low one first
 --   put_pair m i v        m with the number v in two bytes at i, the low one first
 --   Layout               how a run lies in the scratch: which run is number i of the scratch m. Every run has four bytes, whatever the width of a pixel
---   run_of brightest      the layout for pixels of at most this level: two bytes of start, two of level
---   run8, run16          the layouts for pixels of 8 bits and of 16
+--   run8                 the layout for pixels of eight bits: two bytes of start, one of level, one free
 --   stack_of run m d      the first d runs of the scratch m, the last on top
 --   is_ready n room p    a reading of n pixels can stand at p, with room bytes of scratch
 --   beginning            the bookmark where a reading begins
@@ -17,7 +16,7 @@
 -- Laws: bright/proofs/Steps (coming-beginning: from the beginning on every stretch is to come; coming-next: the stretch found is the first to come, and the others come from
 -- the bookmark handed back; coming-none: where none is found, none is to come).
 use Rattle.std.specs.Prelude.{◌≡◌, Bool, true, false, cond, ◌&&◌, List, [], ◌∷◌, ℕ, zero, suc, ◌+◌, ◌*◌, ◌/◌, ◌%◌, leb, length, get_or, set, drop}
-use Rattle.answer.specs.Limits.{longest, brightest8, brightest16}
+use Rattle.answer.specs.Limits.{longest}
 use Rattle.bright.specs.declared.Stretch.{Stretch}
 use Rattle.bright.specs.declared.Bookmark.{Bookmark}
 use Rattle.bright.specs.declared.Step.{Step}
@@ -33,15 +32,8 @@ put_pair m i v = set (set m i (v % 256)) (i + 1) (v / 256)
 abbrev pub Layout : Type 0
 Layout = List ℕ → ℕ → Run
 
--- whatever the two bytes hold, the level is one that a pixel can have
-abbrev pub run_of : ℕ → Layout
-run_of brightest m i = record { start = pair_at m (4 * i); level = pair_at m (4 * i + 2) % suc brightest }
-
 abbrev pub run8 : Layout
-run8 = run_of brightest8
-
-abbrev pub run16 : Layout
-run16 = run_of brightest16
+run8 m i = record { start = pair_at m (4 * i); level = get_or m (4 * i + 2) 0 }
 
 unfoldable pub stack_of : Layout → List ℕ → ℕ → List Run
 stack_of run m zero = []

@@ -1,6 +1,7 @@
 -- How the list is made in one reading of the line: the open runs are a stack, the latest start on top.
 -- A run is open where it has no end yet; its level is its darkest pixel so far.
 --   Run                  an open run: its start and its level
+--   levels8              how many levels a pixel of eight bits can have
 --   top_level rs         the level of the run on top; 0 where there is none
 --   top_start rs         where the run on top starts; 0 where there is none
 --   top_holds v rs       there is a run on top, and its level is v or more
@@ -23,6 +24,10 @@ use Rattle.bright.specs.Stretches.{no_stretch}
 pub record Run : Type 0 where
   pub start : ℕ
   pub level : ℕ
+
+-- how many levels a pixel of eight bits can have
+abbrev pub levels8 : ℕ
+levels8 = 256
 
 abbrev pub top_level : List Run → ℕ
 top_level [] = 0

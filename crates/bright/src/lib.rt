@@ -1,12 +1,6 @@
 // The bright stretches of a line, whatever the width of its pixels: what a reading of the line stands at and what it finds. What a bright stretch is, which
 // encloses which, how one reading makes the list, and the laws of these speak of lists of numbers (specs/, proofs/).
 
-// The places for the levels of the runs that are open at once in a line of at most 4,096 pixels, of 8 bits and of 16: no more than a pixel has levels, and no more
-// than the line has pixels.
-pub const DEEPEST8: usize = 256;
-
-pub const DEEPEST16: usize = 4096;
-
 // A bright stretch: its start, its end, which is not included, its darkest pixel and its brighter neighbour.
 #[repr(C)]
 #[derive(Drop)]

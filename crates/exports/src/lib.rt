@@ -1,5 +1,6 @@
-// The calls that the benchmark (bench/), the demonstration (host/demo.c) and the checks make on lines and frames of 8-bit pixels, each under a name that C can link
-// (host/calls.h). The product's own entry for C is another (include/fibre.h).
+// The calls that the benchmark (bench/) and the demonstration (host/demo.c) make, each under a name that C can link (host/calls.h). The product's own entry
+// for C is another (include/fibre.h).
+ghost use Rattle.std.specs.Prelude.{◌≡◌};
 ghost use Rattle.frame.specs.Direction.{dir};
 ghost use Rattle.frame.specs.Shape.{shape};
 ghost use Rattle.gathering.specs.Gathering.{Gathers};
@@ -8,21 +9,20 @@ ghost use Rattle.line.specs.Dilation.{DilatesLine};
 ghost use Rattle.line.specs.Opening.{OpensLine};
 ghost use Rattle.opening.specs.Sixteen.{FindsHighest};
 ghost use Rattle.sizes.specs.Frame.{SumsFrame};
+ghost use Rattle.sizes.specs.Summary.{summary_of};
 
 use answer::Answer;
 use frame::{Direction, Shape};
 
-pub type Pixel = u8;
-
 #[unsafe(no_mangle)]
-pub extern "C" fn c_erode(src: &[Pixel], length: usize, dst: &mut [Pixel]) -> Answer
+pub extern "C" fn c_erode(src: &[u8], length: usize, dst: &mut [u8]) -> Answer
     ensures { ErodesLine src.now length dst.old dst.new result }
 {
     line::erode(src, length, dst)
 }
 
 #[unsafe(no_mangle)]
-pub extern "C" fn c_dilate(src: &[Pixel], length: usize, dst: &mut [Pixel]) -> Answer
+pub extern "C" fn c_dilate(src: &[u8], length: usize, dst: &mut [u8]) -> Answer
     ensures { DilatesLine src.now length dst.old dst.new result }
 {
     line::dilate(src, length, dst)
@@ -30,9 +30,9 @@ pub extern "C" fn c_dilate(src: &[Pixel], length: usize, dst: &mut [Pixel]) -> A
 
 #[unsafe(no_mangle)]
 pub extern "C" fn c_open_line(
-    src: &[Pixel],
+    src: &[u8],
     length: usize,
-    dst: &mut [Pixel],
+    dst: &mut [u8],
     scratch: &mut [u8],
 ) -> Answer
     ensures { OpensLine src.now length dst.old dst.new scratch.old scratch.new result }
@@ -42,14 +42,14 @@ pub extern "C" fn c_open_line(
 
 #[unsafe(no_mangle)]
 pub extern "C" fn c_gather(
-    src: &[Pixel],
+    src: &[u8],
     width: usize,
     height: usize,
     stride: usize,
     p: i64,
     q: i64,
     line: i64,
-    dst: &mut [Pixel],
+    dst: &mut [u8],
 ) -> Answer
     ensures { Gathers src.now (shape width height stride) (dir p q) line dst.old dst.new result }
 {
@@ -63,12 +63,12 @@ pub extern "C" fn c_gather(
 
 #[unsafe(no_mangle)]
 pub extern "C" fn c_highest(
-    src: &[Pixel],
+    src: &[u8],
     width: usize,
     height: usize,
     stride: usize,
     length: usize,
-    dst: &mut [Pixel],
+    dst: &mut [u8],
     directions: &mut [u8],
     scratch: &mut [u8],
 ) -> Answer
@@ -84,7 +84,7 @@ pub extern "C" fn c_highest(
 
 #[unsafe(no_mangle)]
 pub extern "C" fn c_sums_of_frame(
-    src: &[Pixel],
+    src: &[u8],
     width: usize,
     height: usize,
     stride: usize,
@@ -101,4 +101,29 @@ pub extern "C" fn c_sums_of_frame(
         stride,
     };
     sizes::sums_of_frame(src, frame, Direction { p, q }, sums, scratch)
+}
+
+// The summary comes back one number at a time: its record is not laid out for C.
+#[unsafe(no_mangle)]
+pub extern "C" fn c_mean(sums: &[u64]) -> f64
+    ensures { result ≡ (summary_of sums.now).mean }
+{
+    let s = sizes::summarize(sums);
+    s.mean
+}
+
+#[unsafe(no_mangle)]
+pub extern "C" fn c_share(sums: &[u64]) -> f64
+    ensures { result ≡ (summary_of sums.now).share }
+{
+    let s = sizes::summarize(sums);
+    s.share
+}
+
+#[unsafe(no_mangle)]
+pub extern "C" fn c_number(sums: &[u64]) -> u32
+    ensures { result ≡ (summary_of sums.now).number }
+{
+    let s = sizes::summarize(sums);
+    s.number
 }

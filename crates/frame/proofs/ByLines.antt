@@ -38,7 +38,7 @@ agree h k (b ∷ cs) c e m = go (agree h k cs c) (Memᴰ.cases_cons m)
     go ih (inl q) = let z : h b ≡ k b = cc e in ap h q ∙ z ∙ sym (ap k q)
     go ih (inr n) = let z : map h cs ≡ map k cs = cc e in ih z n
 
--- the row of a place, and the place in it
+-- a byte's row and its place there
 row_of : (w i x y : ℕ) → x < w → i ≡ y * w + x → (i % w ≡ x) × (i / w ≡ y)
 row_of w i x y h e = flat w (i % w) (i / w) x y (mod-lt i (omega arith)) h (omega (arith, div-add-mod' i w))
 
@@ -46,16 +46,16 @@ pub frames_same : (sh : Shape) (a b : List ℕ) → is_frame sh ≡ true → len
     → ((x y : ℕ) → x < sh.width → y < sh.height → get_or a (place sh (at x y)) 0 ≡ get_or b (place sh (at x y)) 0)
     → ((i : ℕ) → Gap sh i → get_or a i 0 ≡ get_or b i 0) → a ≡ b
 frames_same sh a b ok long pixel gap =
-    ext_get_or 0 a b long (λ i h. each i (less_or_not (i % sh.stride) sh.width) (less_or_not (i / sh.stride) sh.height))
+    ext_get_or 0 a b long (λ i h. byte i (less_or_not (i % sh.stride) sh.width) (less_or_not (i / sh.stride) sh.height))
   where
     shaped : Framed sh
     shaped = framed sh ok
 
-    each : (i : ℕ) → (i % sh.stride < sh.width) ⊎ (sh.width ≤ i % sh.stride) → (i / sh.stride < sh.height) ⊎ (sh.height ≤ i / sh.stride)
+    byte : (i : ℕ) → (i % sh.stride < sh.width) ⊎ (sh.width ≤ i % sh.stride) → (i / sh.stride < sh.height) ⊎ (sh.height ≤ i / sh.stride)
         → get_or a i 0 ≡ get_or b i 0
-    each i (inl x) (inl y) = subst (λ (j : ℕ). get_or a j 0 ≡ get_or b j 0) (div-add-mod' i sh.stride) (pixel (i % sh.stride) (i / sh.stride) x y)
-    each i (inl x) (inr y) = gap i (λ x' y' h k e. let z = (row_of sh.stride i x' y' (omega (arith, shaped)) e).1 in omega arith)
-    each i (inr x) y = gap i (λ x' y' h k e. let z = (row_of sh.stride i x' y' (omega (arith, shaped)) e).0 in omega arith)
+    byte i (inl x) (inl y) = subst (λ (j : ℕ). get_or a j 0 ≡ get_or b j 0) (div-add-mod' i sh.stride) (pixel (i % sh.stride) (i / sh.stride) x y)
+    byte i (inl x) (inr y) = gap i (λ x' y' h k e. let z = (row_of sh.stride i x' y' (omega (arith, shaped)) e).1 in omega arith)
+    byte i (inr x) y = gap i (λ x' y' h k e. let z = (row_of sh.stride i x' y' (omega (arith, shaped)) e).0 in omega arith)
 
 pub one_outcome : (φ : List ℕ → List ℕ) (f : List ℕ) (sh : Shape) (d : Direction) (g a b : List ℕ) → is_frame sh ≡ true
     → ByLines φ f sh d g a → ByLines φ f sh d g b → a ≡ b

@@ -15,7 +15,7 @@
 --   Spans          at which major coordinates lines have their pixels
 --   Tracks         where a line is, from its number
 --   Firsts         the numbers of the lines, at the machine's edge
---   Partition      no two pixels share a place
+--   Partition      no two pixels share a byte
 --   Spots          a pixel among others, and on its line of the sweep
 --   Paintings      painted frames
 --   Alongs         along, a line is a row

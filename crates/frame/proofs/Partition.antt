@@ -1,8 +1,8 @@
--- No two pixels of a frame share a place.
+-- No two pixels of a frame share a byte.
 --   flat                    a place in a row, and its row
---   place-once              one place, one pixel of a frame; same-cell: of a sweep
+--   place-once              one byte, one pixel of a frame; same-cell: of a sweep
 --   Distinct, distinct-next no place twice
---   distinct, line-once     a line has each of its places once
+--   distinct, line-once     a line has each of its bytes once
 -- Assumes nothing.
 use mathlib.Core.Path.{◌≡◌, refl, sym, ap, ◌∙◌, subst}
 use mathlib.Core.Bool.{Bool, true, false}
@@ -86,7 +86,7 @@ module _ (s : Sweep) (far : Apart s) where
           omega (arith, q, a.below)))
       go d false e = rw (e, append-nil) d
 
--- a line of an accepted frame has each of its places once
+-- a line of an accepted frame has each of its bytes once
 pub line-once : (sh : Shape) (d : Direction) → Accepted sh d → (k : ℤ) → Distinct (map (place sh) (pixels sh d k))
 line-once sh d ok k = go (indexed (low (sweep_of sh d)) k)
   where

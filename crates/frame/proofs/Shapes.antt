@@ -1,12 +1,12 @@
 -- What an accepted frame, an accepted direction and their sweep keep to.
 --   framed, directed            the ranges, from the tests
---   needed-small, needed-by     what a frame needs fits, and is what `needed` hands back
+--   needed-small, needed-by     a frame's bytes fit, and are those that `bytes` hands back
 --   accepted-some               an accepted direction moves; accepted_or_not: both rules accept, or one refuses
 --   sweep_sane, sweep_apart, sweep_accepted    the sweep of an accepted frame and direction
---   sweep_reach                 its last pixel is within what the frame needs
+--   sweep_reach                 its last pixel is within the bytes that the frame needs
 --   top_less, low_less          its lines move aside by less than a side; for_lines, for_low, for_sane: and what `sweep_of` hands back
 --   shift_is                    what `shift_at` hands back for such a sweep
---   gapless-accepted, gapless-needed    a frame without gaps: it is accepted, and needs just its pixels
+--   gapless-accepted, gapless-needed    a frame without gaps: it is accepted, and needs a byte a pixel
 -- Assumes nothing.
 use mathlib.Core.Path.{◌≡◌, refl, sym, ap}
 use mathlib.Core.Bool.{Bool, true, false, not, cond, ◌&&◌, false≢true}

@@ -3,7 +3,7 @@
 --   shift_falling, shift-rising, shift_le    by the slope's sign; a line moves aside by at most `top`
 --   from_falling, end_falling, from-rising, end_rising    its ends, by the slope's sign
 --   span_ordered, spans       the stretch of a line
---   span_holds, cells_span, values_span, pixels_span    every pixel of the line is within it; the line's places, values and pixels, by it
+--   span_holds, cells_span, values_span, pixels_span    every pixel of the line is within it; the line's bytes, values and pixels, by it
 --   past-lines, line-some     a line of an index past the last has no pixel, and every line below has one
 -- Assumes nothing.
 use mathlib.Core.Path.{◌≡◌, refl, sym, ap, ◌∙◌}

@@ -1,8 +1,8 @@
 -- Where a line has its pixels, found from its number.
 --   track_nowhere, track_found    what `track_of` hands back: a number that is no line's, and a line's
---   Tracks, track_line     the track of an accepted frame's line: its stretch, its count and its pixels' places
+--   Tracks, track_line     the track of an accepted frame's line: its stretch, its count and its pixels' bytes
 --   track_none, track_some a track without pixels, and one with some
---   track_values           the pixels of a frame there are the line as read
+--   track_values           the bytes of a frame there are the line as read
 -- Assumes nothing.
 use mathlib.Core.Path.{◌≡◌, refl, sym, ap, ◌∙◌, subst}
 use mathlib.Core.Bool.{Bool, true, false, not, ◌&&◌}

@@ -1,11 +1,11 @@
 -- The sweep has document 01's lines: the line of index u has the number u − low, and its pixels are those where the sweep has a hit, in line order.
 --   hits, hit-at, hit-below, hit-past, value_on, value-off    what a hit says, and what a line's value is
 --   number_is         the number of a pixel's line, by the line's index
---   cell-place        the place of a line at a major coordinate is a pixel's
---   pixels_are        the pixels of a line; places_are: where they stand; values_are: what a frame has there
+--   cell-place        the byte of a line at a major coordinate is a pixel's
+--   pixels_are        the pixels of a line; places_are: their bytes; values_are: what a frame has there
 --   pixels-none       a number below every index has no pixels
---   cells_mem         what is among a line's places
---   cell_reach        each place of a line lies before the last pixel's end
+--   cells_mem         what is among a line's bytes
+--   cell_reach        each byte of a line lies before the last pixel's end
 -- Assumes nothing.
 use mathlib.Core.Path.{◌≡◌, refl, sym, ap, ◌∙◌}
 use mathlib.Core.Bool.{Bool, true, false, cond, and_false}

@@ -6,8 +6,8 @@
 --   pixel_on d k x y   the pixel (x, y) where it is on line k, else nothing
 --   pixels sh d k      the pixels of line k of a frame of shape sh, in line order
 --   no_line sh d k     the frame has no such line: it has no pixels (empty)
---   place sh c         where pixel c stands in the slice
---   gathered f sh d k  the pixels of line k in the frame f, in line order
+--   place sh c         the byte of pixel c
+--   gathered f sh d k  the bytes of line k in the frame f, in line order
 --   line_read f sh d k  what a call reads of line k
 --   frame_light f sh   the total of a frame's pixels
 --   climb sh d         how far a line moves aside from one end of the frame to the other
@@ -67,7 +67,7 @@ empty (c ∷ cs) = false
 abbrev pub no_line : Shape → Direction → ℤ → Bool
 no_line sh d k = empty (pixels sh d k)
 
--- 'Pixel (x, y) is the byte at y·stride + x', at 16 bits the pixel there
+-- 'Pixel (x, y) is the byte at y·stride + x'
 abbrev pub place : Shape → Pixel → ℕ
 place sh c = c.y * sh.stride + c.x
 

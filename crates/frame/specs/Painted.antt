@@ -1,5 +1,5 @@
 -- A frame painted pixel by pixel.
---   Gap sh i             place i is no pixel's of a frame of shape sh: it stands between rows, or after the last pixel
+--   Gap sh i             byte i is no pixel's of a frame of shape sh: it stands between rows, or after the last pixel
 --   Painted sh F g g'    g' is g with F x y at each pixel (x, y) of a frame of shape sh
 -- Laws: frame/proofs/Paintings.
 use Rattle.std.specs.Prelude.{◌≡◌, List, ℕ, ◌<◌, length, get_or}

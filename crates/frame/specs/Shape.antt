@@ -2,7 +2,7 @@
 --   shape W H stride    a frame's three numbers
 --   within lo hi n      n is lo to hi
 --   is_frame sh         the three numbers are in their ranges
---   needed sh           the pixels that a slice needs to hold a frame of this shape
+--   needed sh           the bytes that a frame of this shape needs
 --   scratch_for sh      the bytes of scratch that calls on its lines need
 --   gapless sh          the same pixels without gaps
 -- Laws: frame/proofs/Shapes.
@@ -21,7 +21,7 @@ within lo hi n = not (outside lo hi n)
 abbrev pub is_frame : Shape → Bool
 is_frame sh = within 1 longest sh.width && within 1 longest sh.height && within sh.width widest sh.stride
 
--- 'The slice needs (H−1)·stride + W bytes and may be longer'; of order 4: 'with stride, size and need counted in pixels'
+-- 'The slice needs (H−1)·stride + W bytes and may be longer.'
 abbrev pub needed : Shape → ℕ
 needed sh = (sh.height - 1) * sh.stride + sh.width
 

@@ -1,5 +1,5 @@
 -- The lines of a frame in unsigned numbers, for the code and the laws. The major coordinate is the one that ascends along a line, the minor the other.
--- A sweep's majors and minors are how many of each the frame has; its pace and sidestep are how many pixels of the slice it is from one to the next.
+-- A sweep's majors and minors are how many of each the frame has; its pace and sidestep are how many bytes it is from one to the next.
 -- A line has an index from 0 up: its number is the index less `low`.
 --   sweep_of sh d      the sweep of a frame in a direction (sweeping: by its numbers)
 --   sweep_for sh d    the same; no_sweep where rule 1 or 2 refuses them
@@ -8,14 +8,14 @@
 --   low s              how far below 0 the lowest line number is
 --   lines s            how many lines there are
 --   hit s u i          line u has a pixel at major coordinate i
---   cell s u i         its place in the slice
---   cells s u n        the places of line u at the major coordinates below n, in line order
---   value s f u i      line u's pixel of f at major coordinate i, and 0 where it has no pixel there
---   values_at f cs     the pixels of f at the places cs
+--   cell s u i         its byte
+--   cells s u n        the bytes of line u at the major coordinates below n, in line order
+--   value s f u i      line u's byte of f at major coordinate i, and 0 where it has no pixel there
+--   values_at f cs     the bytes of f at the places cs
 --   Accepted sh d      rules 1 and 2 accept the frame and the direction
 --   Sane s             what a sweep of an accepted frame and direction keeps to
---   Reach s n          its last pixel's place is below n
---   Apart s            no two of its pixels share a place
+--   Reach s n          its last pixel's byte is below n
+--   Apart s            no two of its pixels share a byte
 -- That these are document 01's lines is shown in frame/proofs/Walks; laws: Walks, Spots, Partition.
 use Rattle.std.specs.Prelude.{◌≡◌, Bool, true, false, cond, ◌&&◌, ◌⊎◌, List, map, ℕ, ◌+◌, ◌-◌, ◌*◌, ◌≤◌, ◌<◌, leb, ltb, get_or, nat_abs}
 use Rattle.lists.specs.Tables.{those}

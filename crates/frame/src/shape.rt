@@ -4,7 +4,7 @@ ghost use Rattle.frame.specs.Shape.{is_frame, needed, scratch_for};
 
 use answer::{LONGEST, WIDEST, is_outside};
 
-// A frame's width and height in pixels, and how many pixels its rows are apart.
+// A frame's width and height in pixels, and how many bytes its rows are apart.
 #[derive(Drop)]
 pub struct Shape {
     pub width: usize,
@@ -27,8 +27,8 @@ impl Shape {
         !is_outside(self.stride, width, WIDEST)
     }
 
-    // The pixels that a slice needs to hold a frame of this shape; 0 where rule 1 refuses it.
-    pub fn needed(self) -> usize
+    // The bytes that a frame of this shape needs; 0 where rule 1 refuses it.
+    pub fn bytes(self) -> usize
         ensures { result ≡ cond (is_frame self) (needed self) 0 }
     {
         if !self.is_frame() {

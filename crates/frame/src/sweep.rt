@@ -9,7 +9,7 @@ use crate::shape::Shape;
 use crate::signed::{opposed, size};
 use answer::{LONGEST, STEEPEST, is_outside};
 
-// How many major and minor coordinates there are; how many pixels of the slice it is from one major coordinate to the next (`pace`) and from one minor coordinate
+// How many major and minor coordinates there are; how many bytes of the frame it is from one major coordinate to the next (`pace`) and from one minor coordinate
 // to the next (`sidestep`); the slope; and how far a line moves aside from its first major coordinate to the last.
 #[derive(Drop)]
 pub struct Sweep {

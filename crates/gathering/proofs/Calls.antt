@@ -1,5 +1,5 @@
--- What the calls on a line answer, and what they know once they are not refused. Gathering and scattering have the same rules up to rule 2; then `size` pixels of
--- source of which `from` are needed, and `room` pixels of destination of which `to` are.
+-- What the calls on a line answer, and what they know once they are not refused. Gathering and scattering have the same rules up to rule 2; then `size` bytes of
+-- source of which `from` are needed, and `room` bytes of destination of which `to` are.
 --   line-answer                what the tests answer that ask for the track's count
 --   gather_done                a gathering that no rule refuses
 --   Fits, gather_fits, scatter_fits    what a call knows that is not refused
@@ -84,11 +84,11 @@ module _ (sh : Shape) (d : Direction) (k : ℤ) (size from room to : ℕ) where
         place = ltb-false room to rules.1.1.1.1.0;
       }
 
--- the frame and the direction are accepted, the frame has the line and its pixels are there, and the other buffer has room for the line
-pub record Fits (sh : Shape) (d : Direction) (k : ℤ) (size values : ℕ) : Type 0 where
+-- the frame and the direction are accepted, the frame has the line and its bytes are there, and the other buffer has room for the line
+pub record Fits (sh : Shape) (d : Direction) (k : ℤ) (bytes values : ℕ) : Type 0 where
   pub ok : Accepted sh d
   pub there : no_line sh d k ≡ false
-  pub whole : needed sh ≤ size
+  pub whole : needed sh ≤ bytes
   pub room : length (pixels sh d k) ≤ values
 
 module _ (sh : Shape) (d : Direction) (k : ℤ) (size room : ℕ) where

@@ -43,7 +43,7 @@ stands sh d k x y h l e =
     (here.0, map_at (place sh) (pixels sh d k) (index_in (at x y) (pixels sh d k)) here.0 ∙ ap (place sh) here.1)
 
 module _ (sh : Shape) (d : Direction) (ok : Accepted sh d) (k : ℤ) where
-  -- a pixel of another line, and a place that is no pixel's, are none of its places
+  -- a pixel of another line, and a byte that is no pixel's, are none of its places
   other : (x y : ℕ) → x < sh.width → (line_of d x y ≡ k → ⊥) → Memᴰ (place sh (at x y)) (map (place sh) (pixels sh d k)) → ⊥
   other x y h off m =
       let c = Memᴰ.of_map (place sh) (pixels sh d k) m in

@@ -1,5 +1,5 @@
 -- The places of a line, one after the other along its walk.
---   places, places-next, places_fresh    the places of a line's first pixels; one more, which is none of them
+--   places, places-next, places_fresh    the bytes of a line's first pixels; one more, which is none of them
 --   put-more                             one more value put
 -- Assumes nothing.
 use mathlib.Core.Path.{◌≡◌, sym, ap, ◌∙◌}
@@ -20,7 +20,7 @@ use Rattle.frame.proofs.Partition.{same-cell}
 use Rattle.gathering.specs.Scattering.{put}
 use Rattle.gathering.proofs.Puts.{put_next}
 
--- the places of the first n pixels of line u, whose major coordinates are those from `from` on
+-- the bytes of the first n pixels of line u, whose major coordinates are those from `from` on
 abbrev pub places : Sweep → ℕ → ℕ → ℕ → List ℕ
 places s u from n = table (λ (i : ℕ). cell s u (from + i)) n
 

@@ -2,7 +2,7 @@
 --   claims best n new old       who holds a pixel: n where the new value is above the best so far, else who held it
 --   raised ps vs best           best with, at each of the places ps in order, the brighter of what stood there and the value of vs
 --   held n ps vs best g         g with, at each of the places ps in order, who holds that pixel against the value of vs
---   claim_fits sh d k size room spare   the test: size values, room for a frame of the best, and room for one of their holders
+--   claim_fits sh d k size room bytes   the test: size values, a frame of room bytes for the best, and one of `bytes` bytes for the holders
 -- Laws: gathering/proofs/Claimings, PutLines.
 use Rattle.std.specs.Prelude.{◌≡◌, Bool, cond, ◌&&◌, List, map, ℕ, max, leb, ltb, length, get_or, ℤ}
 use Rattle.frame.specs.declared.direction.Direction.{Direction}
@@ -22,8 +22,8 @@ abbrev pub held : ℕ → List ℕ → List ℕ → List ℕ → List ℕ → Li
 held n ps vs best g = put (λ (p old new : ℕ). claims (get_or best p 0) n new old) ps vs g
 
 abbrev pub claim_fits : Shape → Direction → ℤ → ℕ → ℕ → ℕ → Bool
-claim_fits sh d k size room spare =
-    is_frame sh && is_direction d && leb (length (pixels sh d k)) size && leb (needed sh) room && leb (needed sh) spare
+claim_fits sh d k size room bytes =
+    is_frame sh && is_direction d && leb (length (pixels sh d k)) size && leb (needed sh) room && leb (needed sh) bytes
 
 -- the best values and their holders are frames of one shape
 pub record ClaimsLine (values : List ℕ) (n : ℕ) (sh : Shape) (d : Direction) (k : ℤ) (best best' holders holders' : List ℕ) : Type 0 where

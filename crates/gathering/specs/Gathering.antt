@@ -9,7 +9,7 @@ use Rattle.frame.specs.Direction.{is_direction}
 use Rattle.frame.specs.Shape.{is_frame, needed}
 use Rattle.frame.specs.Lines.{pixels, no_line, line_read}
 
--- line k of a frame of size pixels, into a destination of room pixels
+-- line k of a frame of size bytes, into a destination of room bytes
 abbrev pub gather_rules : Shape → Direction → ℤ → ℕ → ℕ → List Rule
 gather_rules sh d k size room =
     rule (not (is_frame sh)) 1 0

@@ -19,7 +19,7 @@ put op (c ∷ cs) (v ∷ vs) f = put op cs vs (set f c (op c (get_or f c 0) v))
 abbrev pub stored : List ℕ → List ℕ → List ℕ → List ℕ
 stored cs vs f = put (λ (c old new : ℕ). new) cs vs f
 
--- size values to line k of a frame of room pixels
+-- size values to line k of a frame of room bytes
 abbrev pub scatter_rules : Shape → Direction → ℤ → ℕ → ℕ → List Rule
 scatter_rules sh d k size room =
     rule (not (is_frame sh)) 1 0
@@ -29,7 +29,7 @@ scatter_rules sh d k size room =
     ∷ rule (ltb room (needed sh)) 6 (needed sh)
     ∷ []
 
--- the values at the front of src, to the pixels of line k in line order; every other pixel of dst is unchanged
+-- the values at the front of src, to the pixels of line k in line order; every other byte is unchanged
 pub record Scatters (src : List ℕ) (sh : Shape) (d : Direction) (k : ℤ) (dst dst' : List ℕ) (a : Answer) : Type 0 where
   pub answers : a ≡ answer (scatter_rules sh d k (length src) (length dst)) (length (pixels sh d k))
   pub written : dst' ≡ after a (stored (map (place sh) (pixels sh d k)) src dst) dst

@@ -12,18 +12,18 @@ fn minor_of(s: Sweep, u: usize, i: usize) -> usize
     u - shift_at(s, i)
 }
 
-// Where the pixel with major coordinate i and minor coordinate j stands in the slice.
-fn place_of(s: Sweep, i: usize, j: usize) -> usize
+// The byte of the pixel with major coordinate i and minor coordinate j.
+fn byte_of(s: Sweep, i: usize, j: usize) -> usize
     requires { Sane s × (i < s.majors) × (j < s.minors) }
     ensures { result ≡ i * s.pace + j * s.sidestep }
 {
     i * s.pace + j * s.sidestep
 }
 
-// Where line u's pixel at major coordinate i stands.
+// The byte of line u's pixel at major coordinate i.
 pub(crate) fn cell_of(s: Sweep, u: usize, i: usize) -> usize
     requires { Sane s × (i < s.majors) × (hit s u i ≡ true) }
     ensures { result ≡ cell s u i }
 {
-    place_of(s, i, minor_of(s, u, i))
+    byte_of(s, i, minor_of(s, u, i))
 }

@@ -44,8 +44,7 @@ fn claim_in(
         let at = cell_of(s, u, from + i);
         let old = best[at];
         let value = values[i];
-        let holder = holders[at];
-        holders[at] = claimed(old, value, number, holder);
+        holders[at] = claimed(old, value, number, holders[at]);
         best[at] = brighter(old, value);
         i += 1;
     }
@@ -67,7 +66,7 @@ pub fn claim(
 {
     let t = track_of(shape, d, line);
     let n = t.count;
-    let needed = shape.needed();
+    let needed = shape.bytes();
     if n == 0 {
         return;
     }

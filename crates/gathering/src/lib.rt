@@ -1,7 +1,7 @@
 // Lines of a frame of pixels: gathered, scattered, and claimed for a number; and the lent row.
 mod cells;
 mod claiming;
-mod gathered;
+mod gathering;
 mod rows;
 mod rules;
 mod scattering;
@@ -10,6 +10,6 @@ mod scattering;
 pub type Pixel = u8;
 
 pub use claiming::claim;
-pub use gathered::gather;
+pub use gathering::gather;
 pub use rows::row;
 pub use scattering::scatter;

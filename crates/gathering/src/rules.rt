@@ -5,8 +5,8 @@ ghost use Rattle.gathering.specs.Steps.{frame_line_rules};
 
 use answer::Answer;
 
-// Rules 1, 2, 5 and 6 for a line of `count` pixels, none where the frame has no such line: a source of `size` pixels, of which `from` are read, and a
-// destination of `room` pixels, of which `to` may be written.
+// Rules 1, 2, 5 and 6 for a line of `count` pixels, none where the frame has no such line: a source of `size` bytes, of which `from` are read, and a
+// destination of `room` bytes, of which `to` may be written.
 pub(crate) fn refusal(
     framed: bool,
     count: usize,

@@ -33,7 +33,7 @@ pub fn scatter(src: &[Pixel], shape: Shape, d: Direction, line: i64, dst: &mut [
 {
     let t = track_of(shape, d, line);
     let n = t.count;
-    let a = refusal(shape.is_frame(), n, src.len(), n, dst.len(), shape.needed());
+    let a = refusal(shape.is_frame(), n, src.len(), n, dst.len(), shape.bytes());
     if a.number != 0 {
         return a;
     }

@@ -1,4 +1,4 @@
--- A pass over pixels (crate passes), as the passes of windows take it.
+-- A pass over bytes (crate passes), as the passes of windows take it.
 --   narrowed-by, widened-by    a pass over the front of a buffer, and over what follows it
 --   cleared_by                 zeros up to the end
 -- Assumes nothing.

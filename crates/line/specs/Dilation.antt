@@ -6,7 +6,7 @@ use Rattle.answer.specs.Limits.{longest}
 use Rattle.answer.specs.Rules.{Rule, rule, answer, after, outside}
 use Rattle.line.specs.Windows.{dilated, dilated_count}
 
--- m values, windows of L, a destination of room pixels; rule 1 is broken by 'm outside its range, or m+L−1 above 4,096'
+-- m values, windows of L, a destination of room bytes; rule 1 is broken by 'm outside its range, or m+L−1 above 4,096'
 abbrev pub dilate_rules : ℕ → ℕ → ℕ → List Rule
 dilate_rules m L room =
     rule (outside 1 longest m || ltb longest (dilated_count m L)) 1 0

@@ -6,7 +6,7 @@ use Rattle.answer.specs.Limits.{longest}
 use Rattle.answer.specs.Rules.{Rule, rule, answer, after, outside}
 use Rattle.line.specs.Windows.{eroded, eroded_count}
 
--- n pixels, windows of L, a destination of room pixels
+-- n pixels, windows of L, a destination of room bytes
 abbrev pub erode_rules : ℕ → ℕ → ℕ → List Rule
 erode_rules n L room =
     rule (outside 1 longest n) 1 0

@@ -7,7 +7,7 @@ use Rattle.answer.specs.Limits.{longest}
 use Rattle.answer.specs.Rules.{Rule, rule, answer, after, outside}
 use Rattle.line.specs.Windows.{opened}
 
--- n pixels, windows of L, a destination of room pixels and a scratch of spare bytes
+-- n pixels, windows of L, a destination of room bytes and a scratch of spare bytes
 abbrev pub open_rules : ℕ → ℕ → ℕ → ℕ → List Rule
 open_rules n L room spare =
     rule (outside 1 longest n) 1 0

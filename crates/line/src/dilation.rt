@@ -9,7 +9,7 @@ use crate::Pixel;
 use crate::doubling::dilate_in_place;
 use answer::{Answer, LONGEST, is_outside};
 
-// Rules 1, 3 and 6 for m values, with `room` pixels of destination. m + length − 1 is tested as length against what m leaves, since the sum may wrap.
+// Rules 1, 3 and 6 for m values, with `room` bytes of destination. m + length − 1 is tested as length against what m leaves, since the sum may wrap.
 fn refusal(m: usize, length: usize, room: usize) -> Answer
     ensures { result ≡ answer (dilate_rules m length room) (dilated_count m length) }
 {

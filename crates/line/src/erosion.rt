@@ -21,7 +21,7 @@ fn count_of(n: usize, length: usize) -> usize
     n - length + 1
 }
 
-// Rules 1, 3 and 6 for a line of n pixels, with `room` pixels of destination.
+// Rules 1, 3 and 6 for a line of n pixels, with `room` bytes of destination.
 fn refusal(n: usize, length: usize, room: usize) -> Answer
     ensures { result ≡ answer (erode_rules n length room) (eroded_count n length) }
 {

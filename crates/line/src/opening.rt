@@ -9,7 +9,7 @@ use crate::Pixel;
 use crate::doubling::open_in_place;
 use answer::{Answer, LONGEST, is_outside};
 
-// Rules 1, 3, 6 and 7 for a line of n pixels, with `room` pixels of destination and `spare` bytes of scratch.
+// Rules 1, 3, 6 and 7 for a line of n pixels, with `room` bytes of destination and `spare` of scratch.
 fn refusal(n: usize, length: usize, room: usize, spare: usize) -> Answer
     ensures { result ≡ answer (open_rules n length room spare) 0 }
 {

@@ -33,22 +33,22 @@ use Rattle.opening.specs.Steps.{Ready}
 pub area_small : {sh : Shape} → Framed sh → sh.width * sh.height ≤ longest * longest
 area_small {sh} f = mul-le-mul {n₁ = sh.width} {m₁ = sh.height} {n₂ = longest} {m₂ = longest} f.width f.height
 
--- `need` and `lines` are what the calls work out, in place of what a frame needs
+-- `bytes` and `lines` are what the calls work out, in place of what a frame needs
 abbrev pub tested_rules : Shape → Direction → ℕ → ℕ → ℕ → ℕ → ℕ → ℕ → List Rule
-tested_rules sh d L size room spare need lines =
+tested_rules sh d L size room spare bytes lines =
     rule (not (is_frame sh)) 1 0
     ∷ rule (not (is_direction d)) 2 0
     ∷ rule (outside 1 longest L) 3 0
-    ∷ rule (ltb size need) 5 need
-    ∷ rule (ltb room need) 6 need
+    ∷ rule (ltb size bytes) 5 bytes
+    ∷ rule (ltb room bytes) 6 bytes
     ∷ rule (ltb spare lines) 7 lines
     ∷ []
 
-pub tested_answer : (sh : Shape) (d : Direction) (L size room spare : ℕ) {need lines : ℕ} → need ≡ cond (is_frame sh) (needed sh) 0 → lines ≡ cond (is_frame sh) (scratch_for sh) 0
-    → answer (tested_rules sh d L size room spare need lines) 0 ≡ answer (open_frame_rules sh d L size room spare) 0
-tested_answer sh d L size room spare {need} {lines} b l = go (is_frame sh) refl
+pub tested_answer : (sh : Shape) (d : Direction) (L size room spare : ℕ) {bytes lines : ℕ} → bytes ≡ cond (is_frame sh) (needed sh) 0 → lines ≡ cond (is_frame sh) (scratch_for sh) 0
+    → answer (tested_rules sh d L size room spare bytes lines) 0 ≡ answer (open_frame_rules sh d L size room spare) 0
+tested_answer sh d L size room spare {bytes} {lines} b l = go (is_frame sh) refl
   where
-    go : (t : Bool) → is_frame sh ≡ t → answer (tested_rules sh d L size room spare need lines) 0 ≡ answer (open_frame_rules sh d L size room spare) 0
+    go : (t : Bool) → is_frame sh ≡ t → answer (tested_rules sh d L size room spare bytes lines) 0 ≡ answer (open_frame_rules sh d L size room spare) 0
     go true e = rw ((rw e at b), (rw e at l))
     go false e = rw e
 
@@ -119,7 +119,7 @@ open_figure sh L size room spare d = go (is_frame sh) refl
     go false e = rw e (omega arith)
     go true e =
         let f = framed sh e in
-        let need = needed-small f in
+        let bytes = needed-small f in
         small_cond (2 ^ 32) (not (is_frame sh)) _ _ (omega arith)
         (small_cond (2 ^ 32) (not (is_direction d)) _ _ (omega arith)
         (small_cond (2 ^ 32) (outside 1 longest L) _ _ (omega arith)

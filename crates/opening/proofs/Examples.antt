@@ -1,4 +1,4 @@
--- A frame of 3 by 3 pixels, its rows 4 pixels apart, with a strand from corner to corner: what the definitions compute.
+-- A frame of 3 by 3 pixels, its rows 4 bytes apart, with a strand from corner to corner: what the definitions compute.
 -- Assumes nothing.
 use mathlib.Core.Path.{◌≡◌, refl}
 use mathlib.Core.List.{List, [], ◌∷◌}
@@ -52,7 +52,7 @@ pub lowest-number : picture (direction_at strand small 3) ≡ 3 ∷ 0 ∷ 0 ∷ 
 unfolding tables.each extremes.least extremes.greatest windows.opened measures.first_from lines.r lines.index_in pixels.opened_pixel pixels.first_greatest
 lowest-number = refl
 
--- 11 pixels of frame and 24 bytes of scratch are enough
+-- 11 bytes of frame and 24 of scratch are enough
 pub answers :
     (answer (open_frame_rules small along 3 11 11 24) 0 ≡ done 0)
     × (answer (open_frame_rules small (dir (pos 0) (pos 0)) 3 11 11 24) 0 ≡ refusal 2 0)

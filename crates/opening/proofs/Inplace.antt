@@ -38,7 +38,7 @@ use Rattle.frame.proofs.Paintings.{painted_as, painted_again}
 use Rattle.gathering.specs.Rows.{row_of}
 use Rattle.gathering.proofs.LentRows.{row-length, row-pixel}
 use Rattle.rows.specs.Rows as rows
-use Rattle.rows.specs.Rows.{place_of, lane, OpensLines, can_open, OpensIf}
+use Rattle.rows.specs.Rows.{byte_of, lane, OpensLines, can_open, OpensIf}
 use Rattle.rows.proofs.Acceptance.{opens-all}
 use Rattle.opening.specs.Pixels as opening
 use Rattle.opening.specs.Pixels.{opened_pixel}
@@ -91,7 +91,7 @@ record PixelAt (sh : Shape) (d : Direction) (i k : ℕ) : Type 0 where
   pub y : ℕ
   pub wide : x < sh.width
   pub high : y < sh.height
-  pub is : place_of (sweep_of sh d) i k ≡ place sh (at x y)
+  pub is : byte_of (sweep_of sh d) i k ≡ place sh (at x y)
 
 module _ (sh : Shape) (d : Direction) where
   pixel-at : (i k : ℕ) → i < (sweep_of sh d).majors → k < (sweep_of sh d).minors → PixelAt sh d i k
@@ -102,7 +102,7 @@ module _ (sh : Shape) (d : Direction) where
       go true e = record { x = i; y = k; wide = rw e at h; high = rw e at n; is = rw e (omega arith) }
       go false e = record { x = k; y = i; wide = rw e at n; high = rw e at h; is = rw e (omega arith) }
 
-  lane-is : (g : List ℕ) (u : ℕ) → lane (shift (sweep_of sh d)) (place_of (sweep_of sh d)) (sweep_of sh d).minors (sweep_of sh d).majors g u ≡ whole (sweep_of sh d) g u
+  lane-is : (g : List ℕ) (u : ℕ) → lane (shift (sweep_of sh d)) (byte_of (sweep_of sh d)) (sweep_of sh d).minors (sweep_of sh d).majors g u ≡ whole (sweep_of sh d) g u
   unfolding rows.lane_at sweep.value sweep.hit sweep.cell
   lane-is g u = refl
 
@@ -118,7 +118,7 @@ module _ (sh : Shape) (d : Direction) where
             let back : p.u - shift s p.i + shift s p.i ≡ p.u = omega arith in
             sym (ap (λ (k : ℕ). get_or g' k 0) (spot-cell p))
             ∙ o.within p.i (p.u - shift s p.i) p.below (omega arith)
-            ∙ ap (λ (v : ℕ). get_or (opened (lane (shift s) (place_of s) s.minors s.majors g v) L) p.i 0) back
+            ∙ ap (λ (v : ℕ). get_or (opened (lane (shift s) (byte_of s) s.minors s.majors g v) L) p.i 0) back
             ∙ ap (λ (t : List ℕ). get_or (opened t L) p.i 0) (lane-is g p.u)
             ∙ sym (opened-spot sh d ok g L some p);
         gaps = λ k none. o.other k (λ i j h n e. let p = pixel-at i j h n in none p.x p.y p.wide p.high (e ∙ p.is));

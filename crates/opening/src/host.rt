@@ -1,4 +1,4 @@
-// The entry for the camera's host, written in C: numbers and slices in, one number back.
+// The entry for the camera's host, written in C: numbers and byte slices in, one number back.
 ghost use Rattle.std.specs.Prelude.{◌≡◌};
 ghost use Rattle.frame.specs.Direction.{dir};
 ghost use Rattle.frame.specs.Shape.{shape};

@@ -1,6 +1,6 @@
 // Opening a frame in one direction, and the highest opening over the sixteen numbered directions with the number of the direction that gave it.
+mod claiming;
 mod frames;
-mod framewise;
 mod host;
 mod lent;
 mod linewise;

@@ -1,15 +1,13 @@
-// A frame, line by line: a line is gathered and opened where it stands, in an array of its own, and claims its pixels.
-ghost use Rattle.std.specs.Prelude.{◌≡◌, ◌≤◌, ◌<◌, min, pos, ◌+ℤ◌};
+// A frame, line by line: with the least scratch, a line is gathered and opened where it stands, in an array of its own.
+ghost use Rattle.std.specs.Prelude.{◌≡◌, ◌≤◌, ◌<◌, pos, ◌+ℤ◌};
 ghost use lib.ListN;
 ghost use Rattle.answer.specs.Limits.{longest};
 ghost use Rattle.frame.specs.Lines.{first_line, line_count};
 ghost use Rattle.frame.specs.Shape.{needed};
 ghost use Rattle.frame.specs.Sweep.{Accepted};
-ghost use Rattle.opening.specs.Pixels.{opened_pixel};
-ghost use Rattle.opening.specs.Steps.{LineOpened, FrameClaimed, Ready};
+ghost use Rattle.opening.specs.Steps.{LineOpened};
 
 use crate::Pixel;
-use answer::LONGEST;
 use frame::{Direction, Shape};
 
 // Line u of the frame src, counted from the first, is opened at the front of `values`. Hands back its number.
@@ -29,29 +27,4 @@ pub(crate) fn opened_line(
     let n = a.figure as usize;
     line::open_in_place(&mut values[..n], length);
     line
-}
-
-// The frame src, opened in the direction d, claims pixels for the number. A line is opened in an array of its own, so that scratch stays as it is.
-pub(crate) fn claim_by(
-    src: &[Pixel],
-    number: u8,
-    shape: Shape,
-    d: Direction,
-    length: usize,
-    dst: &mut [Pixel],
-    directions: &mut [u8],
-    scratch: &mut [u8],
-)
-    requires { Ready shape d length (lib.ListN.length src.now) (min (lib.ListN.length dst.old) (lib.ListN.length directions.old)) }
-    ensures { FrameClaimed shape (opened_pixel src.now shape d length) number dst.old dst.new directions.old directions.new }
-{
-    let lines = frame::lines_of(shape, d);
-    let count = lines.count;
-    let mut values: [Pixel; LONGEST] = [0; LONGEST];
-    let mut u = 0;
-    while u < count {
-        let line = opened_line(src, shape, d, u, length, &mut values);
-        gathering::claim(&values, number, shape, d, line, dst, directions);
-        u += 1;
-    }
 }

@@ -8,9 +8,9 @@ ghost use Rattle.opening.specs.Sixteen.{FindsHighest};
 ghost use Rattle.opening.specs.Steps.{Ready};
 
 use crate::Pixel;
-use crate::framewise::claim_by;
+use crate::claiming::claim_by;
 use crate::lent::refusal;
-use crate::rowwise::{hold, open_rows};
+use crate::rowwise::{blacken, open_rows};
 use answer::Answer;
 use frame::{Direction, Shape};
 
@@ -28,7 +28,7 @@ fn highest_into(
 {
     let stride = shape.stride;
     open_rows(src, shape, length, stride, dst);
-    hold(shape, directions);
+    blacken(shape, directions);
     let mut n = 1;
     while n < 16 {
         let d = Direction::numbered(n);
@@ -47,7 +47,7 @@ fn lesser(a: usize, b: usize) -> usize
 
 // At each pixel of the frame src, into the frame dst the greatest of its openings in the sixteen numbered directions, with windows as long as `length` pixels
 // along a row, and into the frame `directions` the number of the direction, the lowest of them, that reaches it. Hands back 0. Rules 1, 3, 5, 6 of either, 7.
-// Where a pixel is a byte and scratch has width·height of them, which rule 7 does not ask for, it is many times as fast.
+// Where scratch has width·height bytes, which rule 7 does not ask for, it is many times as fast.
 pub fn highest(
     src: &[Pixel],
     shape: Shape,

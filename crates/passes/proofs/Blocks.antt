@@ -19,7 +19,7 @@ use mathlib.Core.Path.{◌≡◌, refl, sym, ap, ap₂, ◌∙◌}
 use mathlib.Core.Bool.{Bool, true, false, cond}
 use mathlib.Core.List.{List}
 use mathlib.Core.Logic.{inl, ⊎_elim}
-use Prim.Native.Nat.{ℕ, ◌+◌, ◌-◌, ◌*◌, ◌≤◌, ◌<◌, max}
+use Prim.Native.Nat.{ℕ, ◌+◌, ◌-◌, ◌*◌, ◌≤◌, ◌<◌, min, max}
 use native.Mathlib.Nat.{le_refl}
 use native.Mathlib.Omega.{arith}
 use borrow.Author.Tests.{leb-true, leb-false}
@@ -83,7 +83,7 @@ module _ (op : ℕ → ℕ → ℕ) (partner : List ℕ → ℕ → ℕ) (at : �
       let there : j ≡ x - at = omega arith in
       ap₂ op (ap (λ (y : ℕ). get_or g y 0) e) (ap (λ (y : ℕ). partner g y) there)
 
-  -- t was made of g at at + i, is stored there, and c pixels long
+  -- t was made of g at at + i, is stored there, and c bytes long
   module _ (g : List ℕ) {a b : List ℕ} (c : ℕ) (t : List ℕ) (i s : ℕ)
       (v : (k : ℕ) → k < c → get_or t k 0 ≡ op (get_or g (at + (i + k)) 0) (partner g (i + k)))
       (p : Filled a b s (s + c) (λ (k : ℕ). get_or t (k - s) 0)) (here : s ≡ at + i) where
@@ -117,14 +117,14 @@ module _ (op : ℕ → ℕ → ℕ) (partner : List ℕ → ℕ → ℕ) (at : �
     met_ahead {g} {a} {s} {t} {F} x f low some next here =
         ap₂ op (f.above x next) (await g a s t F (x - at) f low (omega arith) (omega arith))
 
-    -- the block t of c pixels, made at at + i when what is before it has been treated, is as one made where the pass began
+    -- the block t of c bytes, made at at + i when what is before it has been treated, is as one made where the pass began
     pub met-late : {g a : List ℕ} {s hi : ℕ} {F : ℕ → ℕ} (c : ℕ) (t : List ℕ) (i : ℕ) → Filled g a s hi F → at ≤ s → s ≤ hi → hi ≤ at + i → i + c ≤ n
         → ((k : ℕ) → k < c → get_or t k 0 ≡ op (get_or a (at + (i + k)) 0) (partner a (i + k)))
         → (k : ℕ) → k < c → get_or t k 0 ≡ op (get_or g (at + (i + k)) 0) (partner g (i + k))
     met-late {g} {a} c t i f low some next room v k h =
         v k h ∙ met-is a (i + k) (at + (i + k)) refl ∙ met_ahead (at + (i + k)) f low some (omega arith) (omega arith) ∙ sym (met-is g (i + k) (at + (i + k)) refl)
 
-    -- t is the block of c pixels at at + i
+    -- t is the block of c bytes at at + i
     pub met_block : {g a b : List ℕ} (c : ℕ) (t : List ℕ) (i : ℕ) → Filled g a at (at + i) (met op partner at g) → i + c ≤ n
         → ((k : ℕ) → k < c → get_or t k 0 ≡ op (get_or a (at + (i + k)) 0) (partner a (i + k)))
         → Filled a b (at + i) (at + i + c) (λ (k : ℕ). get_or t (k - (at + i)) 0)
@@ -145,14 +145,14 @@ module _ (op : ℕ → ℕ → ℕ) (partner : List ℕ → ℕ → ℕ) (at : �
     pub met-behind : {g a : List ℕ} {s t : ℕ} {F : ℕ → ℕ} (x : ℕ) → Filled g a s t F → t ≤ at + n → at ≤ x → x < s → met op partner at a x ≡ met op partner at g x
     met-behind {g} {a} {s} {t} {F} x f high low next = ap₂ op (f.below x next) (outlast g a s t F (x - at) f high (omega arith))
 
-    -- the block t of c pixels, made at at + i when what is behind it has been treated, is as one made where the pass began
+    -- the block t of c bytes, made at at + i when what is behind it has been treated, is as one made where the pass began
     pub met_early : {g a : List ℕ} {s hi : ℕ} {F : ℕ → ℕ} (c : ℕ) (t : List ℕ) (i : ℕ) → Filled g a s hi F → hi ≤ at + n → at + i + c ≤ s
         → ((k : ℕ) → k < c → get_or t k 0 ≡ op (get_or a (at + (i + k)) 0) (partner a (i + k)))
         → (k : ℕ) → k < c → get_or t k 0 ≡ op (get_or g (at + (i + k)) 0) (partner g (i + k))
     met_early {g} {a} c t i f high next v k h =
         v k h ∙ met-is a (i + k) (at + (i + k)) refl ∙ met-behind (at + (i + k)) f high (omega arith) (omega arith) ∙ sym (met-is g (i + k) (at + (i + k)) refl)
 
-    -- t is the block of c pixels at at + i
+    -- t is the block of c bytes at at + i
     pub met_block_before : {g a b : List ℕ} {lo : ℕ} (c : ℕ) (t : List ℕ) (i : ℕ) → Filled g a lo (at + n) (met op partner at g) → lo ≡ at + i + c → lo ≤ at + n
         → ((k : ℕ) → k < c → get_or t k 0 ≡ op (get_or a (at + (i + k)) 0) (partner a (i + k)))
         → Filled a b (at + i) (at + i + c) (λ (k : ℕ). get_or t (k - (at + i)) 0)

@@ -14,7 +14,6 @@
 --   Fades                      `fade`: pixels meet 0
 --   Copies                     `copy`: the first pixels of one slice come to the front of another
 --   MeetsBy                    `meet_by`: each pixel meets its partner in another slice
---   Holds                      `hold`: a number is the holder of pixels
 --   Claims                     `claim`: the brighter ones become the best, and their holder is named
 -- Laws: passes/proofs/Blocks.
 use Rattle.std.specs.Prelude.{◌≡◌, Bool, true, false, cond, List, ◌⊎◌, ℕ, ◌+◌, ◌-◌, ◌*◌, ◌≤◌, ◌<◌, min, max, eqb, ltb, length, get_or}
@@ -83,10 +82,6 @@ pub record Copies (src : List ℕ) (n : ℕ) (before after : List ℕ) : Type 0 
 pub record MeetsBy (darker : Bool) (src : List ℕ) (from n at : ℕ) (before after : List ℕ) : Type 0 where
   pub done : from + n ≤ length src → at + n ≤ length before → Filled before after at (at + n) (λ (x : ℕ). op darker (get_or before x 0) (straight from src (x - at)))
   pub none : (from + n ≤ length src → at + n ≤ length before → ⊥) → after ≡ before
-
-pub record Holds (number at n : ℕ) (before after : List ℕ) : Type 0 where
-  pub done : at + n ≤ length before → Filled before after at (at + n) (λ (k : ℕ). number)
-  pub none : (at + n ≤ length before → ⊥) → after ≡ before
 
 -- the n pixels of new from `from` on claim for a number, from the best so far; these and their holders stand from `at` on
 pub record Claims (new : List ℕ) (from n number at : ℕ) (best best' holders holders' : List ℕ) : Type 0 where

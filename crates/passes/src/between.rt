@@ -1,7 +1,7 @@
-// Pixels of one slice that meet, or claim, those of another; and who holds them at first.
+// Pixels of one slice that meet, or claim, those of another.
 ghost use Rattle.std.specs.Prelude.{◌≡◌, cond, ℕ, ◌+◌, ◌-◌, ◌≤◌, max, ltb, length, get_or};
 ghost use Rattle.lists.specs.Stores.{Filled};
-ghost use Rattle.passes.specs.Passes.{op, straight, MeetsBy, Holds, Claims};
+ghost use Rattle.passes.specs.Passes.{op, straight, MeetsBy, Claims};
 
 use crate::Pixel;
 use crate::block::of_two;
@@ -31,27 +31,6 @@ pub fn meet_by(src: &[Pixel], from: usize, n: usize, dst: &mut [Pixel], at: usiz
     by_row(src, from, n, dst, at, darker);
 }
 
-fn hold_row(holders: &mut [u8], at: usize, n: usize, number: u8)
-    requires { at + n ≤ length holders.old }
-    ensures { Filled holders.old holders.new at (at + n) (λ (k : ℕ). number) }
-{
-    let mut i = 0;
-    while i < n {
-        holders[at + i] = number;
-        i += 1;
-    }
-}
-
-// The number holds each of the n pixels from `at` on. Where they are not all there, nothing changes.
-pub fn hold(holders: &mut [u8], at: usize, n: usize, number: u8)
-    ensures { Holds number at n holders.old holders.new }
-{
-    if !is_within(holders.len(), at, n) {
-        return;
-    }
-    hold_row(holders, at, n, number);
-}
-
 fn claimed(best: Pixel, new: Pixel, number: u8, holder: u8) -> u8
     ensures { result ≡ cond (ltb best new) number holder }
 {
@@ -74,8 +53,7 @@ fn claim_row(
     while i < n {
         let old = best[at + i];
         let value = new[from + i];
-        let holder = holders[at + i];
-        holders[at + i] = claimed(old, value, number, holder);
+        holders[at + i] = claimed(old, value, number, holders[at + i]);
         best[at + i] = of_two(old, value, false);
         i += 1;
     }

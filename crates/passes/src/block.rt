@@ -79,9 +79,11 @@ pub(crate) fn bent_block(
     let mut j = 0;
     while j < n {
         let k = i + j;
-        let mark = bends[k];
-        let partner = either(mark, buf[near + k], buf[far + k]);
-        t[j] = of_two(buf[at + k], partner, darker);
+        t[j] = of_two(
+            buf[at + k],
+            either(bends[k], buf[near + k], buf[far + k]),
+            darker,
+        );
         j += 1;
     }
     t

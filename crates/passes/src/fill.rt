@@ -43,8 +43,7 @@ fn blacken_marked(buf: &mut [Pixel], bends: &[u8], at: usize, n: usize)
 {
     let mut i = 0;
     while i < n {
-        let mark = bends[i];
-        buf[at + i] = either(mark, buf[at + i], 0);
+        buf[at + i] = either(bends[i], buf[at + i], 0);
         i += 1;
     }
 }

@@ -6,9 +6,9 @@ mod block;
 mod fill;
 mod pass;
 
-// What is met, made 0, copied and claimed. Marks and the numbers of holders are bytes.
+// What is met, made 0, copied and claimed; marks and the numbers of holders are bytes.
 pub type Pixel = u8;
 
-pub use between::{claim, hold, meet_by};
+pub use between::{claim, meet_by};
 pub use fill::{blacken, blacken_bent, copy, fade};
 pub use pass::{meet, meet_bent};

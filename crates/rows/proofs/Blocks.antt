@@ -27,7 +27,7 @@ use Rattle.frame.proofs.Rounding.{r-up}
 use Rattle.frame.proofs.Shapes.{shift_is}
 use Rattle.frame.proofs.Spans.{shift_le}
 use Rattle.rows.specs.Rows as rows
-use Rattle.rows.specs.Rows.{place_of, row_at, RowsAre}
+use Rattle.rows.specs.Rows.{byte_of, row_at, RowsAre}
 use Rattle.rows.proofs.Rowwise.{RowsApart, parted_order, row_less, row_kept, rows_none, rows_more, rows_before, rows-still, rows_as, rows_end, rows_join, row_room}
 use Rattle.rows.proofs.Lines.{lane_in, lane-left, lane-right, lane-pixel}
 use Rattle.rows.specs.Down.{Down, LevelsAre, pixel_of, beside, start_at, shifts, extreme, extreme_of, beyond, Takes, WindowsMet}
@@ -42,7 +42,7 @@ down-row {s} {g} to i in' = row_room s.pace s.minors s.majors (length g) i in' t
 pub down-shift : {s : Sweep} {g : List ℕ} → Down s g → (i : ℕ) → i < s.majors → shift_at s i ≡ shift s i
 down-shift {s} to i in' = shift_is s to.sane i (omega (arith, to.sane.majors))
 
-pub side_by_side : (s : Sweep) → s.sidestep ≡ 1 → (i k : ℕ) → place_of s i k ≡ i * s.pace + k
+pub side_by_side : (s : Sweep) → s.sidestep ≡ 1 → (i k : ℕ) → byte_of s i k ≡ i * s.pace + k
 side_by_side s e i k = ap (λ (m : ℕ). i * s.pace + k * m) e ∙ ap (λ (m : ℕ). i * s.pace + m) (mul-one k)
 
 level-at : (s : Sweep) → Sane s → {φ : ℕ → ℕ} {m : List ℕ} → LevelsAre s φ m → (i k : ℕ) → i < s.majors → k < s.minors
@@ -77,7 +77,7 @@ tail_fits : (M f e : ℕ) → f < M → f < e → f + (min e M - 1 - f) < M
 tail_fits M f e in' past = omega arith
 
 module _ (s : Sweep) (d : Bool) {g₀ : List ℕ} (to : Down s g₀) where
-  place : (i k : ℕ) → place_of s i k ≡ i * s.pace + k
+  place : (i k : ℕ) → byte_of s i k ≡ i * s.pace + k
   place = side_by_side s to.next
 
   parted : RowsApart (start_at s d) s.minors s.majors
@@ -88,21 +88,21 @@ module _ (s : Sweep) (d : Bool) {g₀ : List ℕ} (to : Down s g₀) where
 
   pixel-at : (f : List ℕ) (t k : ℕ) → k < s.minors → pixel_of s f (row_at d s.majors t) (k + shifts s d t) ≡ get_or f (start_at s d t + k) 0
   pixel-at f t k n =
-      lane-pixel (shift s) (place_of s) s.minors f (row_at d s.majors t) k n ∙ ap (λ (x : ℕ). get_or f x 0) (place (row_at d s.majors t) k)
+      lane-pixel (shift s) (byte_of s) s.minors f (row_at d s.majors t) k n ∙ ap (λ (x : ℕ). get_or f x 0) (place (row_at d s.majors t) k)
 
   pixel-kept : (f g : List ℕ) (i u : ℕ) → ((k : ℕ) → k < s.minors → get_or f (i * s.pace + k) 0 ≡ get_or g (i * s.pace + k) 0) → pixel_of s f i u ≡ pixel_of s g i u
   pixel-kept f g i u kept =
       ⊎_elim
-      (λ left. lane-left (shift s) (place_of s) s.minors f u i left ∙ sym (lane-left (shift s) (place_of s) s.minors g u i left))
+      (λ left. lane-left (shift s) (byte_of s) s.minors f u i left ∙ sym (lane-left (shift s) (byte_of s) s.minors g u i left))
       (λ from.
       ⊎_elim
       (λ in'.
-      lane_in (shift s) (place_of s) s.minors f u i from in'
+      lane_in (shift s) (byte_of s) s.minors f u i from in'
       ∙ ap (λ (x : ℕ). get_or f x 0) (place i (u - shift s i))
       ∙ kept (u - shift s i) (omega arith)
       ∙ ap (λ (x : ℕ). get_or g x 0) (sym (place i (u - shift s i)))
-      ∙ sym (lane_in (shift s) (place_of s) s.minors g u i from in'))
-      (λ right. lane-right (shift s) (place_of s) s.minors f u i from right ∙ sym (lane-right (shift s) (place_of s) s.minors g u i from right))
+      ∙ sym (lane_in (shift s) (byte_of s) s.minors g u i from in'))
+      (λ right. lane-right (shift s) (byte_of s) s.minors f u i from right ∙ sym (lane-right (shift s) (byte_of s) s.minors g u i from right))
       (less_or_not u (shift s i + s.minors)))
       (less_or_not u (shift s i))
 
@@ -123,16 +123,16 @@ module _ (s : Sweep) (d : Bool) {g₀ : List ℕ} (to : Down s g₀) where
               ⊎_elim
               (λ left.
               z.below u (omega arith) ∙ q.below u left ∙ p.within u zero-le (omega arith)
-              ∙ ap (op d (get_or m u 0)) (sym (lane-left (shift s) (place_of s) s.minors f u i left)))
+              ∙ ap (op d (get_or m u 0)) (sym (lane-left (shift s) (byte_of s) s.minors f u i left)))
               (λ from.
               ⊎_elim
               (λ hit.
               z.below u hit ∙ q.within u from hit
               ∙ ap₂ (op d) (p.above u (omega arith))
-              (ap (λ (x : ℕ). get_or f x 0) (sym (place i (u - shift s i))) ∙ sym (lane_in (shift s) (place_of s) s.minors f u i from hit)))
+              (ap (λ (x : ℕ). get_or f x 0) (sym (place i (u - shift s i))) ∙ sym (lane_in (shift s) (byte_of s) s.minors f u i from hit)))
               (λ right.
               z.within u right (omega arith)
-              ∙ ap₂ (op d) (q.above u right ∙ p.above u (omega arith)) (sym (lane-right (shift s) (place_of s) s.minors f u i from right)))
+              ∙ ap₂ (op d) (q.above u right ∙ p.above u (omega arith)) (sym (lane-right (shift s) (byte_of s) s.minors f u i from right)))
               (less_or_not u (shift s i + s.minors)))
               (less_or_not u (shift s i));
         }
@@ -153,12 +153,12 @@ module _ (s : Sweep) (d : Bool) {g₀ : List ℕ} (to : Down s g₀) where
   gone f t k n out j l =
       ⊎_elim
       (λ left.
-      ⊎_elim (λ up. lane-left (shift s) (place_of s) s.minors f (k + shifts s d t) (row_at d s.majors j) (omega (arith, up (t + 1) j l, left)))
+      ⊎_elim (λ up. lane-left (shift s) (byte_of s) s.minors f (k + shifts s d t) (row_at d s.majors j) (omega (arith, up (t + 1) j l, left)))
       (λ down. absurd (omega (arith, down t (t + 1) (omega arith), left))) steady)
       (λ right.
       ⊎_elim (λ up. absurd (omega (arith, up t (t + 1) (omega arith), right, n)))
       (λ down.
-      lane-right (shift s) (place_of s) s.minors f (k + shifts s d t) (row_at d s.majors j) (omega (arith, down (t + 1) j l, right)) (omega (arith, down (t + 1) j l, right)))
+      lane-right (shift s) (byte_of s) s.minors f (k + shifts s d t) (row_at d s.majors j) (omega (arith, down (t + 1) j l, right)) (omega (arith, down (t + 1) j l, right)))
       steady)
       out
 

@@ -22,7 +22,7 @@ use Rattle.frame.specs.Sweep as sweep
 use Rattle.frame.specs.Sweep.{shift, Sane}
 use Rattle.frame.proofs.Rounding.{r_le}
 use Rattle.rows.specs.Rows as rows
-use Rattle.rows.specs.Rows.{place_of, lane_at, lane, OpensLines}
+use Rattle.rows.specs.Rows.{byte_of, lane_at, lane, OpensLines}
 use Rattle.rows.proofs.Lines.{lane_in, lane-left, lane-right, line-length, line_at}
 use Rattle.rows.specs.Down.{swap_of}
 
@@ -231,14 +231,14 @@ module _ (s : Sweep) (flat : s.rise ≡ s.run) where
       }
 
   swapped_at : Sane s → Sane (swap_of s) → (g : List ℕ) (L i k : ℕ) → 0 < L → i < s.majors → k < s.minors
-      → get_or (opened (lane (shift (swap_of s)) (place_of (swap_of s)) s.majors s.minors g (i + shift (swap_of s) k)) L) k 0
-      ≡ get_or (opened (lane (shift s) (place_of s) s.minors s.majors g (k + shift s i)) L) i 0
+      → get_or (opened (lane (shift (swap_of s)) (byte_of (swap_of s)) s.majors s.minors g (i + shift (swap_of s) k)) L) k 0
+      ≡ get_or (opened (lane (shift s) (byte_of s) s.minors s.majors g (k + shift s i)) L) i 0
   swapped_at sane sane' g L i k some in' n =
       ap (λ (l : List ℕ). get_or (opened l L) k 0) down
-      ∙ opened-at (lane (diag f N) (λ (j l : ℕ). place_of s l j) M N g (i + diag f N k)) L k
-      (omega (arith, n, line-length (diag f N) (λ (j l : ℕ). place_of s l j) M N g (i + diag f N k)))
-      ∙ le_antisymm (swapped_le f N M L (λ (j l : ℕ). place_of s l j) g k i n in' some) (swapped_le f M N L (place_of s) g i k in' n some)
-      ∙ sym (opened-at (lane (diag f M) (place_of s) N M g (k + diag f M i)) L i (omega (arith, in', line-length (diag f M) (place_of s) N M g (k + diag f M i))))
+      ∙ opened-at (lane (diag f N) (λ (j l : ℕ). byte_of s l j) M N g (i + diag f N k)) L k
+      (omega (arith, n, line-length (diag f N) (λ (j l : ℕ). byte_of s l j) M N g (i + diag f N k)))
+      ∙ le_antisymm (swapped_le f N M L (λ (j l : ℕ). byte_of s l j) g k i n in' some) (swapped_le f M N L (byte_of s) g i k in' n some)
+      ∙ sym (opened-at (lane (diag f M) (byte_of s) N M g (k + diag f M i)) L i (omega (arith, in', line-length (diag f M) (byte_of s) N M g (k + diag f M i))))
       ∙ ap (λ (l : List ℕ). get_or (opened l L) i 0) (sym along)
     where
       f : Bool
@@ -250,16 +250,16 @@ module _ (s : Sweep) (flat : s.rise ≡ s.run) where
       N : ℕ
       N = s.minors
 
-      down : lane (shift (swap_of s)) (place_of (swap_of s)) M N g (i + shift (swap_of s) k) ≡ lane (diag f N) (λ (j l : ℕ). place_of s l j) M N g (i + diag f N k)
+      down : lane (shift (swap_of s)) (byte_of (swap_of s)) M N g (i + shift (swap_of s) k) ≡ lane (diag f N) (λ (j l : ℕ). byte_of s l j) M N g (i + diag f N k)
       down =
-          ap (λ (v : ℕ). lane (shift (swap_of s)) (place_of (swap_of s)) M N g (i + v)) (diag-shift (swap_of s) sane' flat k)
-          ∙ lane_as (shift (swap_of s)) (diag f N) (place_of (swap_of s)) (λ (j l : ℕ). place_of s l j) M N g (i + diag f N k) (diag-shift (swap_of s) sane' flat)
+          ap (λ (v : ℕ). lane (shift (swap_of s)) (byte_of (swap_of s)) M N g (i + v)) (diag-shift (swap_of s) sane' flat k)
+          ∙ lane_as (shift (swap_of s)) (diag f N) (byte_of (swap_of s)) (λ (j l : ℕ). byte_of s l j) M N g (i + diag f N k) (diag-shift (swap_of s) sane' flat)
           (λ j l. add_comm (j * s.sidestep) (l * s.pace))
 
-      along : lane (shift s) (place_of s) N M g (k + shift s i) ≡ lane (diag f M) (place_of s) N M g (k + diag f M i)
+      along : lane (shift s) (byte_of s) N M g (k + shift s i) ≡ lane (diag f M) (byte_of s) N M g (k + diag f M i)
       along =
-          ap (λ (v : ℕ). lane (shift s) (place_of s) N M g (k + v)) (diag-shift s sane flat i)
-          ∙ lane_as (shift s) (diag f M) (place_of s) (place_of s) N M g (k + diag f M i) (diag-shift s sane flat) (λ j l. refl)
+          ap (λ (v : ℕ). lane (shift s) (byte_of s) N M g (k + v)) (diag-shift s sane flat i)
+          ∙ lane_as (shift s) (diag f M) (byte_of s) (byte_of s) N M g (k + diag f M i) (diag-shift s sane flat) (λ j l. refl)
 
   pub swapped_opens : {b a : List ℕ} (L : ℕ) → Sane s → 1 ≤ s.pace → 0 < L → OpensLines (swap_of s) L b a → OpensLines s L b a
   swapped_opens {b} {a} L sane step some o =

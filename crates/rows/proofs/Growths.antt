@@ -20,7 +20,7 @@ use Rattle.line.specs.Passes.{eroded_to, reopened}
 use Rattle.line.proofs.Rims.{eroded-to-one, eroded-to-more, eroded-to_out, eroded-to-dark, reopened-one, reopened-near, reopened-more, reopened-dark}
 use Rattle.frame.specs.declared.sweep.Sweep.{Sweep}
 use Rattle.frame.specs.Sweep.{shift}
-use Rattle.rows.specs.Rows.{place_of, lane_at, lane, PixelsAre}
+use Rattle.rows.specs.Rows.{byte_of, lane_at, lane, PixelsAre}
 use Rattle.rows.specs.Slants.{paired, meeting, Dark, edge, grown, GrownLines, Grows}
 use Rattle.rows.proofs.Lines.{lane-pixel, lane-dark, pixels_as, line-length, line_at, held, opening_is}
 
@@ -45,21 +45,21 @@ module _ (s : Sweep) (here there x : ℕ) where
       (less_or_not x here)
 
   pub paired-dark : (light : ℕ) (g : List ℕ) → Dark s light g → (u : ℕ) → light ≤ there + (x - here)
-      → cond (paired s here there x) (lane_at (shift s) (place_of s) s.minors g u (there + (x - here))) 0 ≡ 0
+      → cond (paired s here there x) (lane_at (shift s) (byte_of s) s.minors g u (there + (x - here))) 0 ≡ 0
   paired-dark light g dark u from =
       paired_cases
-      (λ (b : Bool). cond b (lane_at (shift s) (place_of s) s.minors g u (there + (x - here))) 0 ≡ 0)
-      (λ l in'. lane-dark (shift s) (place_of s) s.minors g u (there + (x - here)) (λ k n. dark (there + (x - here)) k from in' n))
+      (λ (b : Bool). cond b (lane_at (shift s) (byte_of s) s.minors g u (there + (x - here))) 0 ≡ 0)
+      (λ l in'. lane-dark (shift s) (byte_of s) s.minors g u (there + (x - here)) (λ k n. dark (there + (x - here)) k from in' n))
       (λ out. refl)
 
 -- ---- the lines of the frame f
 
 module _ (s : Sweep) (f : List ℕ) where
   abbrev line : ℕ → List ℕ
-  line = lane (shift s) (place_of s) s.minors s.majors f
+  line = lane (shift s) (byte_of s) s.minors s.majors f
 
   size : (u : ℕ) → lib.ListN.length (line u) ≡ s.majors
-  size = line-length (shift s) (place_of s) s.minors s.majors f
+  size = line-length (shift s) (byte_of s) s.minors s.majors f
 
   pub grown-start : (L : ℕ) → GrownLines true s L 1 f f f
   grown-start L =
@@ -70,21 +70,21 @@ module _ (s : Sweep) (f : List ℕ) where
               let u = k + shift s i in
               sym
               (eroded-to-one (line u) i (omega (arith, size u))
-              ∙ line_at (shift s) (place_of s) s.minors s.majors f u i l
-              ∙ lane-pixel (shift s) (place_of s) s.minors f i k n);
+              ∙ line_at (shift s) (byte_of s) s.minors s.majors f u i l
+              ∙ lane-pixel (shift s) (byte_of s) s.minors f i k n);
           other = λ x none. refl;
         };
       }
 
   -- the pixel that a line's pixel meets, by what the line holds
   found : (darker : Bool) {b g : List ℕ} (L w here there : ℕ) → GrownLines darker s L w f b g → 0 < w → w ≤ L → (u x : ℕ)
-      → cond (paired s here there x) (lane_at (shift s) (place_of s) s.minors g u (there + (x - here))) 0
+      → cond (paired s here there x) (lane_at (shift s) (byte_of s) s.minors g u (there + (x - here))) 0
       ≡ cond (paired s here there x) (grown darker (line u) L w (there + (x - here))) 0
   found darker {b} {g} L w here there r some short u x =
       paired_cases s here there x
-      (λ (t : Bool). cond t (lane_at (shift s) (place_of s) s.minors g u (there + (x - here))) 0 ≡ cond t (grown darker (line u) L w (there + (x - here))) 0)
+      (λ (t : Bool). cond t (lane_at (shift s) (byte_of s) s.minors g u (there + (x - here))) 0 ≡ cond t (grown darker (line u) L w (there + (x - here))) 0)
       (λ l in'.
-      held (shift s) (place_of s) s.minors s.majors f {B = λ (v i : ℕ). grown darker (line v) L w i} r.pixels (λ v i h dark. gone darker v i dark) u
+      held (shift s) (byte_of s) s.minors s.majors f {B = λ (v i : ℕ). grown darker (line v) L w i} r.pixels (λ v i h dark. gone darker v i dark) u
       (there + (x - here)) in')
       (λ out. refl)
     where
@@ -111,7 +111,7 @@ module _ (s : Sweep) (f : List ℕ) where
       (λ out. ⊎_elim (λ near. omega (arith, reopened-near (line u) L w e i small near)) (λ past. omega arith) out)
 
   pub grown-step : (darker : Bool) {b g g' : List ℕ} (L w e : ℕ) → GrownLines darker s L w f b g
-      → PixelsAre (place_of s) s.majors s.minors (meeting darker s (cond darker 0 e) (cond darker e 0) g) g g' → 0 < w → w ≤ L → e ≤ w
+      → PixelsAre (byte_of s) s.majors s.minors (meeting darker s (cond darker 0 e) (cond darker e 0) g) g g' → 0 < w → w ≤ L → e ≤ w
       → GrownLines darker s L (w + e) f b g'
   grown-step darker L w e r p some short small =
       record {
@@ -130,13 +130,13 @@ module _ (s : Sweep) (f : List ℕ) where
       }
 
   pub grown-opened : {b g : List ℕ} (L : ℕ) → 0 < L → GrownLines false s L L f b g
-      → PixelsAre (place_of s) s.majors s.minors (λ (i k : ℕ). get_or (opened (line (k + shift s i)) L) i 0) b g
+      → PixelsAre (byte_of s) s.majors s.minors (λ (i k : ℕ). get_or (opened (line (k + shift s i)) L) i 0) b g
   grown-opened L some r =
       pixels_as r.pixels (λ (i k : ℕ). get_or (opened (line (k + shift s i)) L) i 0)
-      (λ i k l n. opening_is (shift s) (place_of s) s.minors s.majors f L i k some l)
+      (λ i k l n. opening_is (shift s) (byte_of s) s.minors s.majors f L i k some l)
 
 pub grown-dark : (darker : Bool) (s : Sweep) {b a : List ℕ} (L w e : ℕ) → Dark s (edge darker s.majors L w) b
-    → PixelsAre (place_of s) s.majors s.minors (meeting darker s (cond darker 0 e) (cond darker e 0) b) b a → Dark s (edge darker s.majors L (w + e)) a
+    → PixelsAre (byte_of s) s.majors s.minors (meeting darker s (cond darker 0 e) (cond darker e 0) b) b a → Dark s (edge darker s.majors L (w + e)) a
 grown-dark true s {b} L w e dark r i k from l n =
     r.within i k l n ∙ omega (arith, paired-dark s 0 e i (s.majors + 1 - w) b dark (k + shift s i) (omega arith))
 grown-dark false s {b} L w e dark r i k from l n =

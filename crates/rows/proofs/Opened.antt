@@ -21,7 +21,7 @@ use Rattle.line.proofs.Rims.{eroded-to-dark, eroded-to-past}
 use Rattle.frame.specs.declared.sweep.Sweep.{Sweep}
 use Rattle.frame.specs.Sweep.{shift}
 use Rattle.rows.specs.Rows as rows
-use Rattle.rows.specs.Rows.{place_of, lane_at, lane, rows_by, RowsAre, OpensLines}
+use Rattle.rows.specs.Rows.{byte_of, lane_at, lane, rows_by, RowsAre, OpensLines}
 use Rattle.rows.proofs.Rowwise.{RowsApart, parted-rows, row_kept}
 use Rattle.rows.proofs.Lines.{line-length, line_at, rows-pixels, held, opening_is, opened-none}
 use Rattle.rows.specs.Down.{Down, pixel_of, extreme_of, WindowsMet}
@@ -29,14 +29,14 @@ use Rattle.rows.proofs.Blocks.{side_by_side}
 use Rattle.rows.proofs.Extremes.{extreme-darkest, extreme_brightest}
 
 abbrev line_in : Sweep → List ℕ → ℕ → List ℕ
-line_in s f u = lane (shift s) (place_of s) s.minors s.majors f u
+line_in s f u = lane (shift s) (byte_of s) s.minors s.majors f u
 
 module _ (s : Sweep) (f : List ℕ) (u : ℕ) where
   long : length (line_in s f u) ≡ s.majors
-  long = line-length (shift s) (place_of s) s.minors s.majors f u
+  long = line-length (shift s) (byte_of s) s.minors s.majors f u
 
   pixel : (i : ℕ) → i < s.majors → pixel_of s f i u ≡ get_or (line_in s f u) i 0
-  pixel i l = sym (line_at (shift s) (place_of s) s.minors s.majors f u i l)
+  pixel i l = sym (line_at (shift s) (byte_of s) s.minors s.majors f u i l)
 
   extreme-eroded : (w t : ℕ) → t + w < s.majors → extreme_of s true f u t w ≡ eroded_to (line_in s f u) (w + 1) t
   unfolding rows.row_at
@@ -102,27 +102,27 @@ module _ (s : Sweep) (L : ℕ) (some : 1 ≤ L) where
           (λ fits. ap (λ (v : ℕ). dilated_at (line_in s b u) v (s.majors - 1 - t)) (clipped t L s.majors fits some))
           (less_or_not s.majors (t + L))
 
-  opened_rows : (place : (i k : ℕ) → place_of s i k ≡ i * s.pace + k) {f g h : List ℕ}
+  opened_rows : (place : (i k : ℕ) → byte_of s i k ≡ i * s.pace + k) {f g h : List ℕ}
       → RowsAre (rows_by s.pace) s.minors 0 s.majors (λ (i k : ℕ). eroded_to (line_in s f (k + shift s i)) L i) f g
       → RowsAre (rows_by s.pace) s.minors 0 s.majors (λ (i k : ℕ). dilated_at (line_in s g (k + shift s i)) L i) g h → OpensLines s L f h
   unfolding passes.reopened
   opened_rows place {f} {g} {h} e d =
-      let eroded = rows-pixels e (place_of s) place in
-      let dilated = rows-pixels d (place_of s) place in
+      let eroded = rows-pixels e (byte_of s) place in
+      let dilated = rows-pixels d (byte_of s) place in
       record {
         same = dilated.same ∙ eroded.same;
         within = λ i k l n.
             dilated.within i k l n
             ∙ ap (λ (t : List ℕ). dilated_at t L i) (values (k + shift s i))
-            ∙ opening_is (shift s) (place_of s) s.minors s.majors f L i k some l;
+            ∙ opening_is (shift s) (byte_of s) s.minors s.majors f L i k some l;
         other = λ x none. dilated.other x none ∙ eroded.other x none;
       }
     where
       values : (u : ℕ) → line_in s g u ≡ table (eroded_to (line_in s f u) L) (length (line_in s f u))
       values u =
-          table_same (lane_at (shift s) (place_of s) s.minors g u) (eroded_to (line_in s f u) L) s.majors
+          table_same (lane_at (shift s) (byte_of s) s.minors g u) (eroded_to (line_in s f u) L) s.majors
           (λ i l.
-          held (shift s) (place_of s) s.minors s.majors f {B = λ (v j : ℕ). eroded_to (line_in s f v) L j} (rows-pixels e (place_of s) place)
+          held (shift s) (byte_of s) s.minors s.majors f {B = λ (v j : ℕ). eroded_to (line_in s f v) L j} (rows-pixels e (byte_of s) place)
           (λ v j q dark. eroded-to-dark (line_in s f v) L j some dark) u i l)
           ∙ ap (table (eroded_to (line_in s f u) L)) (sym (long s f u))
 
@@ -134,4 +134,4 @@ module _ (s : Sweep) (L : ℕ) (some : 1 ≤ L) where
 
   pub windows_short : {f h : List ℕ} → Down s f → RowsAre (rows_by s.pace) s.minors 0 s.majors (λ (i k : ℕ). 0) f h → s.majors < L → OpensLines s L f h
   windows_short {f} to clear short =
-      opened-none (shift s) (place_of s) s.minors s.majors f L short (rows-pixels clear (place_of s) (side_by_side s to.next))
+      opened-none (shift s) (byte_of s) s.minors s.majors f L short (rows-pixels clear (byte_of s) (side_by_side s to.next))

@@ -1,5 +1,5 @@
 -- Rows treated one after the other, in any order of the rows.
---   RowsApart st N M                  M rows of N pixels, each at its start, do not meet
+--   RowsApart st N M                  M rows of N bytes, each at its start, do not meet
 --   parted-rows, parted_order      rows that stand S apart, as they come or in the order of a pass
 --   row_less, row-twice            that order has no other rows, and taken twice is as they come
 --   rows_none, rows_more, rows_before, rows_join    no row; one more, behind or before; two stretches of rows

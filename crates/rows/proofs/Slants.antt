@@ -32,7 +32,7 @@ use Rattle.frame.specs.Sweep.{shift, Sane}
 use Rattle.frame.proofs.Rounding.{r-up}
 use Rattle.frame.proofs.Spans.{shift_falling, shift-rising}
 use Rattle.rows.specs.Rows as rows
-use Rattle.rows.specs.Rows.{place_of, lane_at, PixelsAre, RowsAre, row_at, rows_by}
+use Rattle.rows.specs.Rows.{byte_of, lane_at, PixelsAre, RowsAre, row_at, rows_by}
 use Rattle.rows.specs.Slants.{Slanted, row_start, pixel_past, is_forth, rows_on, Bends, near_only, pixel_by, paired, partner, met_at, meeting, Dark, DarkPast}
 use Rattle.rows.proofs.Rowwise.{RowsApart, row_less, row-twice, row_kept, row_room, rows_more}
 use Rattle.rows.proofs.Lines.{lane_in, lane-left, lane-right, columns-pixels, pixels_as}
@@ -53,18 +53,18 @@ module _ (forth : Bool) (N S : ℕ) (g : List ℕ) where
   past_out t j d out = rw (le-ltb (t + d) N out)
 
 -- the pixels of a row stand side by side
-row-by-row : (s : Sweep) → s.pace ≡ 1 → (i k : ℕ) → place_of s i k ≡ k * s.sidestep + i
+row-by-row : (s : Sweep) → s.pace ≡ 1 → (i k : ℕ) → byte_of s i k ≡ k * s.sidestep + i
 row-by-row s flat i k = let e : i * s.pace ≡ i = ap (λ (x : ℕ). i * x) flat ∙ mul-one i in omega (arith, e)
 
 module _ (s : Sweep) (flat : s.pace ≡ 1) where
-  row-place : (forth : Bool) (i k : ℕ) → k < s.minors → place_of s i k ≡ row_start s forth (row_at forth s.minors k) + i
-  row-place forth i k n = row-by-row s flat i k ∙ ap (λ (x : ℕ). x + i) (ap (λ (t : ℕ). t * s.sidestep) (sym (row-twice forth s.minors k n)))
+  row-byte : (forth : Bool) (i k : ℕ) → k < s.minors → byte_of s i k ≡ row_start s forth (row_at forth s.minors k) + i
+  row-byte forth i k n = row-by-row s flat i k ∙ ap (λ (x : ℕ). x + i) (ap (λ (t : ℕ). t * s.sidestep) (sym (row-twice forth s.minors k n)))
 
   row-dark : (forth : Bool) (light : ℕ) (g : List ℕ) → Dark s light g → DarkPast s forth 0 light g
   row-dark forth light g dark u x l n from in' =
       let there = row_less forth s.minors u n in
       ap (λ (y : ℕ). get_or g (row_start s forth y + x) 0) (sym (row-twice forth s.minors u n))
-      ∙ ap (λ (y : ℕ). get_or g y 0) (sym (row-place forth x (row_at forth s.minors u) there))
+      ∙ ap (λ (y : ℕ). get_or g y 0) (sym (row-byte forth x (row_at forth s.minors u) there))
       ∙ dark x (row_at forth s.minors u) from in' there
 
   -- the rows from t on, where those before it are done
@@ -325,8 +325,8 @@ module _ (N S : ℕ) (g : List ℕ) (h : ℕ → ℕ) (A : ℕ → ℕ → ℕ) 
 
 -- a frame whose rows are all 0
 pub cleared_lines : (s : Sweep) → s.pace ≡ 1 → {b a : List ℕ} → RowsAre (rows_by s.sidestep) s.majors 0 s.minors (λ (i k : ℕ). 0) b a
-    → PixelsAre (place_of s) s.majors s.minors (λ (i k : ℕ). 0) b a
-cleared_lines s flat done = columns-pixels done (place_of s) (λ (k : ℕ). k) (λ k h. h) (λ t h. refl) (λ i k h. row-by-row s flat i k)
+    → PixelsAre (byte_of s) s.majors s.minors (λ (i k : ℕ). 0) b a
+cleared_lines s flat done = columns-pixels done (byte_of s) (λ (k : ℕ). k) (λ k h. h) (λ t h. refl) (λ i k h. row-by-row s flat i k)
 
 module _ (s : Sweep) (sane : Sane s) (flat : s.pace ≡ 1) (b : List ℕ) where
   -- a line that goes c rows aside between columns i and j: the pixel that it goes on to, and that which it comes from
@@ -339,22 +339,22 @@ module _ (s : Sweep) (sane : Sane s) (flat : s.pace ≡ 1) (b : List ℕ) where
         omega (arith, shift-rising s f i, shift-rising s f j, aside, sane.top, r-up s.run s.rise j (s.majors - 1) sane.moves (omega arith))
 
     goes_on : (f : Bool) → s.falling ≡ f → (k : ℕ) → k < s.minors
-        → pixel_past (is_forth true f) s.minors s.sidestep b (row_at (is_forth true f) s.minors k) j c ≡ lane_at (shift s) (place_of s) s.minors b (k + shift s i) j
+        → pixel_past (is_forth true f) s.minors s.sidestep b (row_at (is_forth true f) s.minors k) j c ≡ lane_at (shift s) (byte_of s) s.minors b (k + shift s i) j
     unfolding rows.row_at
-    goes_on true f k l = lane-up s.minors s.sidestep b (shift s) (place_of s) (row-by-row s flat) k i j c l (falls f)
-    goes_on false f k l = lane-down s.minors s.sidestep b (shift s) (place_of s) (row-by-row s flat) k i j c l (rises f)
+    goes_on true f k l = lane-up s.minors s.sidestep b (shift s) (byte_of s) (row-by-row s flat) k i j c l (falls f)
+    goes_on false f k l = lane-down s.minors s.sidestep b (shift s) (byte_of s) (row-by-row s flat) k i j c l (rises f)
 
     comes-from : (f : Bool) → s.falling ≡ f → (k : ℕ) → k < s.minors
-        → pixel_past (is_forth false f) s.minors s.sidestep b (row_at (is_forth false f) s.minors k) i c ≡ lane_at (shift s) (place_of s) s.minors b (k + shift s j) i
+        → pixel_past (is_forth false f) s.minors s.sidestep b (row_at (is_forth false f) s.minors k) i c ≡ lane_at (shift s) (byte_of s) s.minors b (k + shift s j) i
     unfolding rows.row_at
-    comes-from true f k l = lane-down s.minors s.sidestep b (shift s) (place_of s) (row-by-row s flat) k j i c l (falls f)
-    comes-from false f k l = lane-up s.minors s.sidestep b (shift s) (place_of s) (row-by-row s flat) k j i c l (rises f)
+    comes-from true f k l = lane-down s.minors s.sidestep b (shift s) (byte_of s) (row-by-row s flat) k j i c l (falls f)
+    comes-from false f k l = lane-up s.minors s.sidestep b (shift s) (byte_of s) (row-by-row s flat) k j i c l (rises f)
 
   module _ (m : List ℕ) (e d : ℕ) where
     met-line : (darker : Bool) (n : ℕ) → Bends s.run s.rise e d n m → (i k : ℕ) → i < s.majors → k < s.minors → cond darker 0 e ≤ i
         → cond darker e 0 + (i - cond darker 0 e) < s.majors → i - cond darker 0 e < n
         → pixel_by s (is_forth darker s.falling) m (row_at (is_forth darker s.falling) s.minors k) (cond darker e 0) d b (i - cond darker 0 e)
-        ≡ lane_at (shift s) (place_of s) s.minors b (k + shift s i) (cond darker e 0 + (i - cond darker 0 e))
+        ≡ lane_at (shift s) (byte_of s) s.minors b (k + shift s i) (cond darker e 0 + (i - cond darker 0 e))
     met-line true n marks i k l h from in' w =
         goes_on i (e + (i - 0)) (rows_on d m (i - 0))
         (ap (r s.run s.rise) (omega arith) ∙ marks (i - 0) w ∙ ap (λ (x : ℕ). r s.run s.rise x + rows_on d m (i - 0)) (omega arith)) in'
@@ -367,13 +367,13 @@ module _ (s : Sweep) (sane : Sane s) (flat : s.pace ≡ 1) (b : List ℕ) where
     pub met-lines : (darker : Bool) {a : List ℕ} (light : ℕ) → Dark s light b → Bends s.run s.rise e d (light - cond darker e 0) m
         → RowsAre (row_start s (is_forth darker s.falling)) s.majors 0 s.minors
         (met_at darker s (is_forth darker s.falling) m (cond darker 0 e) (cond darker e 0) d b) b a
-        → PixelsAre (place_of s) s.majors s.minors (meeting darker s (cond darker 0 e) (cond darker e 0) b) b a
+        → PixelsAre (byte_of s) s.majors s.minors (meeting darker s (cond darker 0 e) (cond darker e 0) b) b a
     unfolding partner
     met-lines darker {a} light dark marks done =
         pixels_as
-        (columns-pixels done (place_of s) (row_at forth s.minors) (row_less forth s.minors) (row-twice forth s.minors) (row-place s flat forth))
+        (columns-pixels done (byte_of s) (row_at forth s.minors) (row_less forth s.minors) (row-twice forth s.minors) (row-byte s flat forth))
         (meeting darker s here there b)
-        (λ i k l n. ap₂ (op darker) (ap (λ (x : ℕ). get_or b x 0) (sym (row-place s flat forth i k n))) (same i k l n))
+        (λ i k l n. ap₂ (op darker) (ap (λ (x : ℕ). get_or b x 0) (sym (row-byte s flat forth i k n))) (same i k l n))
       where
         forth : Bool
         forth = is_forth darker s.falling
@@ -386,14 +386,14 @@ module _ (s : Sweep) (sane : Sane s) (flat : s.pace ≡ 1) (b : List ℕ) where
 
         same : (i k : ℕ) → i < s.majors → k < s.minors
             → partner s forth m here there d b (row_at forth s.minors k) i
-            ≡ cond (paired s here there i) (lane_at (shift s) (place_of s) s.minors b (k + shift s i) (there + (i - here))) 0
+            ≡ cond (paired s here there i) (lane_at (shift s) (byte_of s) s.minors b (k + shift s i) (there + (i - here))) 0
         same i k l n =
             ⊎_elim
             (λ w.
             paired_cases s here there i
             (λ (v : Bool).
             cond v (pixel_by s forth m (row_at forth s.minors k) there d b (i - here)) 0
-            ≡ cond v (lane_at (shift s) (place_of s) s.minors b (k + shift s i) (there + (i - here))) 0)
+            ≡ cond v (lane_at (shift s) (byte_of s) s.minors b (k + shift s i) (there + (i - here))) 0)
             (λ from in'. met-line darker (light - there) marks i k l n from in' (omega arith))
             (λ out. refl))
             (λ w.

@@ -19,7 +19,7 @@ use Rattle.frame.specs.declared.direction.Direction.{Direction}
 use Rattle.frame.specs.declared.shape.Shape.{Shape}
 use Rattle.frame.specs.Direction.{shallow}
 use Rattle.frame.specs.Sweep.{shift, lines, sweep_of, Sane}
-use Rattle.rows.specs.Rows.{place_of, lane_at, row_at, RowsAre}
+use Rattle.rows.specs.Rows.{byte_of, lane_at, row_at, RowsAre}
 
 pub record Down (s : Sweep) (g : List ℕ) : Type 0 where
   pub sane : Sane s
@@ -28,7 +28,7 @@ pub record Down (s : Sweep) (g : List ℕ) : Type 0 where
   pub room : (s.majors - 1) * s.pace + s.minors ≤ length g
 
 abbrev pub pixel_of : Sweep → List ℕ → ℕ → ℕ → ℕ
-pixel_of s f i u = lane_at (shift s) (place_of s) s.minors f u i
+pixel_of s f i u = lane_at (shift s) (byte_of s) s.minors f u i
 
 unfoldable pub beside : List ℕ → ℕ → ℕ → ℕ → ℕ → ℕ → ℕ
 beside g from N a b k = cond (leb b (k + a) && ltb (k + a) (b + N)) (get_or g (from + (k + a - b)) 0) 0

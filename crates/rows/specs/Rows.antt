@@ -1,14 +1,14 @@
 -- Rows of a frame, the lines that cross them, and what a pass leaves. Pixel (i, k) has the major coordinate i, which ascends along a line, and the minor
--- coordinate k. It stands at place A i k, and its line has the index k + h i; the definitions serve any such A and h.
---   place_of s i k          where pixel (i, k) stands in the frame of a sweep
+-- coordinate k. It stands at byte A i k, and its line has the index k + h i; the definitions serve any such A and h.
+--   byte_of s i k           the byte of pixel (i, k) in the frame of a sweep
 --   lane_at h A N g u i    line u's pixel at the major coordinate i of the frame g, which has N minor coordinates; 0 where it has none
 --   lane h A N M g u       these, at each of the M major coordinates
---   PixelsAre A M N F      every pixel is F i k; every other place is as it was
+--   PixelsAre A M N F      every pixel is F i k; every other byte is as it was
 --   row_at forth M t        of M rows the one that comes after t others: from the first on where `forth`, else from the last back
 --   rows_by S               the starts of rows that stand S apart
---   RowsAre st N lo hi F   the rows lo up to, not including, hi, which start at st i, have the pixels F i k; every other place is as it was
+--   RowsAre st N lo hi F   the rows lo up to, not including, hi, which start at st i, have the pixels F i k; every other byte is as it was
 --   OpensLines s L         every line of the sweep s is opened with windows of L pixels
---   can_open sh d L n      rules 1, 2 and 5 accept the frame, the direction and a buffer of n pixels, and L is not 0
+--   can_open sh d L n      rules 1, 2 and 5 accept the frame, the direction and a buffer of n bytes, and L is not 0
 --   OpensIf t s L          where the test t holds, every line of the sweep s is opened with windows of L pixels; else nothing changes
 --   OpensDown, OpensShallow    what `open_down` and `open_shallow` promise of the frame that stands in a buffer
 -- Laws: rows/proofs/Rowwise, Lines, Acceptance.
@@ -22,8 +22,8 @@ use Rattle.frame.specs.Direction.{is_direction, shallow, goes_down}
 use Rattle.frame.specs.Shape.{is_frame, needed}
 use Rattle.frame.specs.Sweep.{shift, sweep_of}
 
-abbrev pub place_of : Sweep → ℕ → ℕ → ℕ
-place_of s i k = i * s.pace + k * s.sidestep
+abbrev pub byte_of : Sweep → ℕ → ℕ → ℕ
+byte_of s i k = i * s.pace + k * s.sidestep
 
 unfoldable pub lane_at : (ℕ → ℕ) → (ℕ → ℕ → ℕ) → ℕ → List ℕ → ℕ → ℕ → ℕ
 lane_at h A N g u i = cond (leb (h i) u && ltb u (h i + N)) (get_or g (A i (u - h i)) 0) 0
@@ -49,7 +49,7 @@ pub record RowsAre (st : ℕ → ℕ) (N lo hi : ℕ) (F : ℕ → ℕ → ℕ) 
 
 abbrev pub OpensLines : Sweep → ℕ → List ℕ → List ℕ → Type 0
 OpensLines s L before after =
-    PixelsAre (place_of s) s.majors s.minors (λ (i k : ℕ). get_or (opened (lane (shift s) (place_of s) s.minors s.majors before (k + shift s i)) L) i 0)
+    PixelsAre (byte_of s) s.majors s.minors (λ (i k : ℕ). get_or (opened (lane (shift s) (byte_of s) s.minors s.majors before (k + shift s i)) L) i 0)
     before after
 
 -- ---- what the two openings promise, of the frame of shape sh that stands in a buffer

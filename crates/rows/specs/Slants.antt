@@ -30,7 +30,7 @@ use Rattle.frame.specs.Lines.{r}
 use Rattle.frame.specs.Sweep.{shift, Sane}
 use Rattle.line.specs.Passes.{eroded_to, reopened}
 use Rattle.passes.specs.Passes.{op}
-use Rattle.rows.specs.Rows.{place_of, lane_at, lane, PixelsAre, row_at}
+use Rattle.rows.specs.Rows.{byte_of, lane_at, lane, PixelsAre, row_at}
 
 pub record Slanted (s : Sweep) (g : List ℕ) : Type 0 where
   pub sane : Sane s
@@ -89,10 +89,10 @@ DarkPast s forth t light g = (u x : ℕ) → t ≤ u → u < s.minors → light 
 
 abbrev pub meeting : Bool → Sweep → ℕ → ℕ → List ℕ → ℕ → ℕ → ℕ
 meeting darker s here there g i k =
-    op darker (get_or g (place_of s i k) 0) (cond (paired s here there i) (lane_at (shift s) (place_of s) s.minors g (k + shift s i) (there + (i - here))) 0)
+    op darker (get_or g (byte_of s i k) 0) (cond (paired s here there i) (lane_at (shift s) (byte_of s) s.minors g (k + shift s i) (there + (i - here))) 0)
 
 abbrev pub Dark : Sweep → ℕ → List ℕ → Type 0
-Dark s light g = (i k : ℕ) → light ≤ i → i < s.majors → k < s.minors → get_or g (place_of s i k) 0 ≡ 0
+Dark s light g = (i k : ℕ) → light ≤ i → i < s.majors → k < s.minors → get_or g (byte_of s i k) 0 ≡ 0
 
 abbrev pub edge : Bool → ℕ → ℕ → ℕ → ℕ
 edge darker M L w = cond darker (M + 1 - w) (M - L + w)
@@ -101,8 +101,8 @@ abbrev pub grown : Bool → List ℕ → ℕ → ℕ → ℕ → ℕ
 grown darker line L w i = cond darker (eroded_to line w i) (reopened line L w i)
 
 pub record GrownLines (darker : Bool) (s : Sweep) (L w : ℕ) (f before after : List ℕ) : Type 0 where
-  pub pixels : PixelsAre (place_of s) s.majors s.minors
-      (λ (i k : ℕ). grown darker (lane (shift s) (place_of s) s.minors s.majors f (k + shift s i)) L w i) before after
+  pub pixels : PixelsAre (byte_of s) s.majors s.minors
+      (λ (i k : ℕ). grown darker (lane (shift s) (byte_of s) s.minors s.majors f (k + shift s i)) L w i) before after
 
 pub record Grows (darker : Bool) (s : Sweep) (L w : ℕ) (before after : List ℕ) : Type 0 where
   pub lines : (f b : List ℕ) → GrownLines darker s L 1 f b before → GrownLines darker s L w f b after

@@ -4,7 +4,7 @@ ghost use Rattle.rows.specs.Rows.{can_open};
 
 use frame::{Direction, Shape};
 
-// Whether rules 1, 2 and 5 accept a frame, a direction and a buffer of n pixels, and the length is not 0. One above 4,096 is opened with too: no window fits.
+// Whether rules 1, 2 and 5 accept a frame, a direction and a buffer of n bytes, and the length is not 0. One above 4,096 is opened with too: no window fits.
 pub(crate) fn can_open(shape: Shape, d: Direction, length: usize, n: usize) -> bool
     ensures { result ≡ can_open shape d length n }
 {
@@ -17,5 +17,5 @@ pub(crate) fn can_open(shape: Shape, d: Direction, length: usize, n: usize) -> b
     if length < 1 {
         return false;
     }
-    shape.needed() <= n
+    shape.bytes() <= n
 }

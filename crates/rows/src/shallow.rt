@@ -1,7 +1,7 @@
 // The opening of a frame in a shallow direction, in place: the windows' length doubles from one pass to the next, and the marks are made anew for each pass.
 ghost use Rattle.std.specs.Prelude.{◌≡◌, cond, ◌+◌, ◌-◌, ◌≤◌};
 ghost use lib.ListN;
-ghost use Rattle.rows.specs.Rows.{place_of, PixelsAre, OpensLines, OpensShallow};
+ghost use Rattle.rows.specs.Rows.{byte_of, PixelsAre, OpensLines, OpensShallow};
 ghost use Rattle.rows.specs.Slants.{Slanted, Dark, edge, meeting, Grows};
 
 use crate::Pixel;
@@ -53,7 +53,7 @@ fn grow(
     darker: bool,
 )
     requires { Slanted s buf.old × (1 ≤ w) × (w + e ≤ length) × (length ≤ s.majors) × (s.majors ≤ lib.ListN.length bends.old) × Dark s (edge darker s.majors length w) buf.old }
-    ensures { PixelsAre (place_of s) s.majors s.minors (meeting darker s (cond darker 0 e) (cond darker e 0) buf.old) buf.old buf.new }
+    ensures { PixelsAre (byte_of s) s.majors s.minors (meeting darker s (cond darker 0 e) (cond darker e 0) buf.old) buf.old buf.new }
 {
     let step = e * s.rise / s.run;
     let light = first_dark(s.majors, length, w, e, darker);

@@ -42,7 +42,7 @@ use Rattle.frame.proofs.Light.{lines-light}
 use Rattle.gathering.specs.Gathering.{Gathers}
 use Rattle.gathering.proofs.Calls.{gather_done}
 use Rattle.bridge.specs.Sums.{sum_for}
-use Rattle.sizes.specs.Sums.{sums_of, line_sums, line_at, pixel_sum, frame_sum, frame_sums, Dim}
+use Rattle.sizes.specs.Sums.{sums_of, line_sums, line_at, pixel_sum, frame_sum, frame_sums}
 use Rattle.sizes.specs.Steps.{zeros, Modest, Adds, Whole}
 use Rattle.sizes.proofs.Bins.{sums-length, sums-behind, sums-total, sums-lines, sum-falls, sum_one, sum-short}
 use Rattle.sizes.proofs.Spreads.{counted-falls}
@@ -83,12 +83,12 @@ module _ (f : List ℕ) (sh : Shape) (d : Direction) where
     pub line-fits : length (line_at f sh d u) ≤ longest
     line-fits = omega (arith, line-short, framed sh ok.frame)
 
-  pub line-dim : {brightest : ℕ} → Dim brightest f → (u : ℕ) → Dim brightest (line_at f sh d u)
-  line-dim {brightest} dim u = record { wide = dim.wide; levels = go (pixels sh d (first_line sh d +ℤ pos u)) }
+  pub line-dim : ((i : ℕ) → get_or f i 0 ≤ 255) → (u i : ℕ) → get_or (line_at f sh d u) i 0 ≤ 255
+  line-dim dim u i = go (pixels sh d (first_line sh d +ℤ pos u)) i
     where
-      go : (cs : List Pixel) (i : ℕ) → get_or (map (λ (c : Pixel). get_or f (place sh c) 0) cs) i 0 ≤ brightest
+      go : (cs : List Pixel) (i : ℕ) → get_or (map (λ (c : Pixel). get_or f (place sh c) 0) cs) i 0 ≤ 255
       go [] i = zero-le
-      go (c ∷ cs) zero = dim.levels (place sh c)
+      go (c ∷ cs) zero = dim (place sh c)
       go (c ∷ cs) (suc i) = go cs i
 
 -- ---- a line at the front of an array
@@ -123,14 +123,14 @@ module _ (f : List ℕ) (sh : Shape) (d : Direction) (n : ℕ) where
         summed = λ j. rw more ((rw g.same at (a.added j)) ∙ omega (arith, g.summed j, total-table (entry j) u));
       }
 
-  module _ (ok : Accepted sh d) {brightest : ℕ} (dim : Dim brightest f) where
+  module _ (ok : Accepted sh d) (dim : (i : ℕ) → get_or f i 0 ≤ 255) where
     pub summing_modest : (u : ℕ) (s : List ℕ) → u ≤ line_count sh d → Summing f sh d n u s → Modest s
     summing_modest u s h g j =
         omega (
           arith,
           g.summed j,
           count_most sh d ok,
-          table-most (entry j) u (2 ^ 28) (λ v l. entry-most (line_at f sh d v) (n - 1) j (line-fits f sh d ok v) (line-dim f sh d dim v)),
+          table-most (entry j) u (2 ^ 20) (λ v l. entry-most (line_at f sh d v) (n - 1) j (line-fits f sh d ok v) (line-dim f sh d dim v)),
         )
 
   pub summing_end : (s : List ℕ) → 1 ≤ n → Summing f sh d n (line_count sh d) s → s ≡ sums_of (pixel_sum f sh d) (n - 1)

@@ -5,11 +5,13 @@
 --   Gathered     a frame's sums from those of its lines; together they are the total of its pixels
 --   Rows         the rose, row by row; no sum is the largest number of 64 bits
 --   Calls        what the calls know once they are not refused, and what they leave
---   Examples     sums of document 01's example, and of a slanted frame
+--   Summaries    parts of totals, and the summary case by case
+--   Examples     sums and summary of document 01's example; sums of a slanted frame
 pub mod Bins
 pub mod Spreads
 pub mod Lights
 pub mod Calls
 pub mod Gathered
 pub mod Rows
+pub mod Summaries
 pub mod Examples

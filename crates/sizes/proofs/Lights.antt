@@ -9,7 +9,7 @@ use mathlib.Core.Bool.{Bool, true, false, cond}
 use mathlib.Core.List.{List, [], ◌∷◌}
 use mathlib.Core.Logic.{⊎_elim}
 use Prim.Native.Nat.{ℕ, zero, suc, ◌+◌, ◌-◌, ◌*◌, ◌≤◌, ◌<◌, ◌^◌, zero-le}
-use native.Mathlib.Nat.{zero-mul, mul-le-mul, mul-le-mul_right}
+use native.Mathlib.Nat.{zero-mul, mul-le-mul_right}
 use native.Mathlib.Omega.{arith}
 use lib.Dec.{ltb, eqb}
 use lib.ListN.{length, get_or, set, length-set, drop_of_length-le, get_or-eq_default}
@@ -19,14 +19,14 @@ use Rattle.lists.specs.Members.{All}
 use Rattle.lists.specs.Extremes.{greatest}
 use Rattle.lists.proofs.Cases.{less_or_not}
 use Rattle.lists.proofs.Extremes.{greatest-append}
-use Rattle.answer.specs.Limits.{longest, brightest16}
+use Rattle.answer.specs.Limits.{longest}
 use Rattle.lists.proofs.Totals.{entry-total, total-most}
 use Rattle.bright.specs.declared.Stretch.{Stretch}
 use Rattle.bright.specs.Stretches.{before, behind, level_of, base_of, stretch_of, stretches, Bright, long}
 use Rattle.bright.proofs.Listed.{all_intro}
 use Rattle.bridge.specs.Sums.{sum_for, light, light_of}
 use Rattle.bridge.proofs.Sizes.{bin-stretches, rest-stretches}
-use Rattle.sizes.specs.Sums.{line_sums, Dim}
+use Rattle.sizes.specs.Sums.{line_sums}
 use Rattle.sizes.specs.Steps.{entry_of, lit, entry_light, Sound, Modest, Adds}
 use Rattle.sizes.proofs.Bins.{sums-length, sums-bin, sums-rest, line-total}
 
@@ -151,12 +151,10 @@ module _ (f s₀ : List ℕ) where
             rw (get_or-eq_default s 0 m, get_or-eq_default s₀ 0 l, get_or-eq_default (line_sums f (length s₀ - 1)) 0 k)
 
 -- an entry is at most the line's light
-pub entry-most : {brightest : ℕ} (f : List ℕ) (K j : ℕ) → length f ≤ longest → Dim brightest f → get_or (line_sums f K) j 0 ≤ 2 ^ 28
-entry-most {brightest} f K j h dim =
-    let most : length f * brightest ≤ longest * brightest16 = mul-le-mul h dim.wide in
-    omega (arith, entry-total (line_sums f K) j, line-total f K, total-most f brightest dim.levels)
+pub entry-most : (f : List ℕ) (K j : ℕ) → length f ≤ longest → ((i : ℕ) → get_or f i 0 ≤ 255) → get_or (line_sums f K) j 0 ≤ 2 ^ 20
+entry-most f K j h dim = omega (arith, entry-total (line_sums f K) j, line-total f K, total-most f 255 dim)
 
-pub adding_modest : {brightest : ℕ} (f s₀ : List ℕ) (rest : List Stretch) (s : List ℕ) → length f ≤ longest → Dim brightest f → Modest s₀
+pub adding_modest : (f s₀ : List ℕ) (rest : List Stretch) (s : List ℕ) → length f ≤ longest → ((i : ℕ) → get_or f i 0 ≤ 255) → Modest s₀
     → Adding f s₀ rest s → (j : ℕ) → get_or s j 0 ≤ 2 ^ 63
 adding_modest f s₀ rest s h dim modest g j = ⊎_elim inside beyond (less_or_not j (length s₀))
   where

@@ -19,7 +19,7 @@ use Rattle.lists.specs.Extremes.{total}
 use Rattle.lists.proofs.Tables.{table-by}
 use Rattle.answer.specs.declared.Answer.{Answer}
 use Rattle.lists.proofs.Totals.{entry-total, table-most}
-use Rattle.answer.specs.Limits.{longest, brightest16}
+use Rattle.answer.specs.Limits.{longest}
 use Rattle.answer.specs.Rules.{answer, done}
 use Rattle.answer.proofs.Rules.{kept, after-done, after-refused}
 use Rattle.frame.specs.declared.direction.Direction.{Direction}
@@ -30,7 +30,7 @@ use Rattle.frame.specs.Lines.{at, place}
 use Rattle.frame.specs.Sweep.{Accepted}
 use Rattle.frame.proofs.Directions.{numbered-accepted}
 use Rattle.frame.proofs.Shapes.{framed}
-use Rattle.sizes.specs.Sums.{frame_sums, Dim}
+use Rattle.sizes.specs.Sums.{frame_sums}
 use Rattle.sizes.specs.Frame.{SumsFrame}
 use Rattle.sizes.specs.Rose.{rose_bins, rose_rules, refused_rose, rose_of, Roses}
 use Rattle.sizes.specs.Steps.{Roomy, SetsRow}
@@ -110,14 +110,14 @@ module _ (f scratch : List ℕ) (sh : Shape) {a : Answer} (e : a ≡ answer (ros
       }
 
 -- 'which no sum reaches'
-pub sum_never_largest : (f : List ℕ) (sh : Shape) (d : Direction) (K j : ℕ) → Accepted sh d → {brightest : ℕ} → Dim brightest f
+pub sum_never_largest : (f : List ℕ) (sh : Shape) (d : Direction) (K j : ℕ) → Accepted sh d → ((i : ℕ) → get_or f i 0 ≤ 255)
     → get_or (frame_sums f sh d K) j 0 < 2 ^ 64 - 1
-sum_never_largest f sh d K j ok {brightest} dim =
+sum_never_largest f sh d K j ok dim =
     let sides = framed sh ok.frame in
-    let row : (y : ℕ) → y < sh.height → total-row y ≤ sh.width * brightest = λ y l. table-most (pixel y) sh.width brightest (λ x k. dim.levels (place sh (at x y))) in
-    let all = table-most total-row sh.height (sh.width * brightest) row in
-    let side : sh.width * brightest ≤ longest * brightest16 = mul-le-mul {n₂ = longest} {m₂ = brightest16} sides.width dim.wide in
-    let most : sh.height * (sh.width * brightest) ≤ longest * (longest * brightest16) = mul-le-mul {n₂ = longest} {m₂ = longest * brightest16} sides.height side in
+    let row : (y : ℕ) → y < sh.height → total-row y ≤ sh.width * 255 = λ y l. table-most (pixel y) sh.width 255 (λ x k. dim (place sh (at x y))) in
+    let all = table-most total-row sh.height (sh.width * 255) row in
+    let side : sh.width * 255 ≤ longest * 255 = omega (arith, sides.width) in
+    let most : sh.height * (sh.width * 255) ≤ longest * (longest * 255) = mul-le-mul {n₂ = longest} {m₂ = longest * 255} sides.height side in
     omega (arith, entry-total (frame_sums f sh d K) j, frame-total f sh d K ok)
   where
     pixel : ℕ → ℕ → ℕ

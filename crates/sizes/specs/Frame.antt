@@ -9,7 +9,7 @@ use Rattle.frame.specs.Direction.{is_direction}
 use Rattle.frame.specs.Shape.{is_frame, needed, scratch_for}
 use Rattle.sizes.specs.Sums.{frame_sums}
 
--- a sums slice of so many entries, a source of size pixels and a scratch of spare bytes
+-- a sums slice of so many entries, a source of size bytes and a scratch of spare bytes
 abbrev pub frame_rules : Shape → Direction → ℕ → ℕ → ℕ → List Rule
 frame_rules sh d entries size spare =
     rule (not (is_frame sh)) 1 0

@@ -16,7 +16,7 @@ use Rattle.sizes.specs.Sums.{frame_sums}
 abbrev pub rose_bins : ℕ
 rose_bins = 32
 
--- a source of size pixels and a scratch of spare bytes
+-- a source of size bytes and a scratch of spare bytes
 abbrev pub rose_rules : Shape → ℕ → ℕ → List Rule
 rose_rules sh size spare =
     rule (not (is_frame sh)) 1 0

@@ -6,12 +6,12 @@
 --   Sound s              a stretch has pixels, and its level is not below its base
 --   Modest s             no entry of a sums slice is above 2^62, so that a line's light can be added to it
 --   Adds f s s'          s' is s with bins and rest of the line f added
---   Whole sh d size      rules 1, 2 and 5 accept a frame of size pixels
+--   Whole sh d size      rules 1, 2 and 5 accept a frame of size bytes
 --   SetsPixels           the sums slice holds bins and rest of a frame by pixels: as if a length counted them
 --   Measured c n         c has counts of pixels, as of the lengths 1 to n: each is 1 at least, and at most its length
 --   spread_to c s i      entry i of the sums slice s by pixels as one by length: that of its count in c, and 0 where the next length has the same count
 --   SetsFrame            the sums slice holds bins and rest of a frame
---   Roomy sh size spare  rules 1, 5 and 7 accept a frame of size pixels and spare bytes of scratch
+--   Roomy sh size spare  rules 1, 5 and 7 accept a frame of size bytes and spare bytes of scratch
 --   SetsRow              the row holds bins and rest of a numbered direction
 use Rattle.std.specs.Prelude.{◌≡◌, true, cond, List, ℕ, suc, ◌+◌, ◌-◌, ◌≤◌, ◌<◌, ◌^◌, min, eqb, length, get_or, set}
 use Rattle.lists.specs.Tables.{table}

@@ -5,12 +5,10 @@
 --   pixel_sum f sh d k       the total of a frame's pixels, opened in a direction with windows of k pixels
 --   frame_sum f sh d L       the sum for a length of a frame in a direction: with the pixels that the length stands for there
 --   frame_sums f sh d K      bins and rest of a frame in a direction
---   Dim brightest f          no pixel of f is above this level, which is one of a pixel of 16 bits
 -- Laws: sizes/proofs/Bins, Spreads, Lights, Gathered.
-use Rattle.std.specs.Prelude.{List, [], ◌∷◌, ◌++◌, ℕ, suc, ◌-◌, ◌≤◌, pos, ◌+ℤ◌, get_or}
+use Rattle.std.specs.Prelude.{List, [], ◌∷◌, ◌++◌, ℕ, suc, ◌-◌, pos, ◌+ℤ◌}
 use Rattle.lists.specs.Tables.{table}
 use Rattle.lists.specs.Extremes.{total}
-use Rattle.answer.specs.Limits.{brightest16}
 use Rattle.frame.specs.declared.direction.Direction.{Direction}
 use Rattle.frame.specs.declared.shape.Shape.{Shape}
 use Rattle.frame.specs.Length.{pixels_for}
@@ -39,8 +37,3 @@ frame_sum f sh d L = pixel_sum f sh d (pixels_for d L)
 
 abbrev pub frame_sums : List ℕ → Shape → Direction → ℕ → List ℕ
 frame_sums f sh d K = sums_of (frame_sum f sh d) K
-
--- 'proved once over the greatest level, and each width cites it' (order 4): what bounds a sum, at `brightest8` and at `brightest16` alike
-pub record Dim (brightest : ℕ) (f : List ℕ) : Type 0 where
-  pub wide : brightest ≤ brightest16
-  pub levels : (i : ℕ) → get_or f i 0 ≤ brightest

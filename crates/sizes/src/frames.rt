@@ -17,7 +17,7 @@ use answer::{Answer, LONGEST, is_outside};
 use frame::{Direction, Shape, line_number, lines_of};
 use gathering::{gather, row};
 
-// Rules 1, 2, 4, 5 and 7 for a frame of `size` pixels, with `entries` sums and `spare` bytes of scratch.
+// Rules 1, 2, 4, 5 and 7 for a frame of `size` bytes, with `entries` sums and `spare` bytes of scratch.
 pub(crate) fn refusal(
     shape: Shape,
     d: Direction,
@@ -33,7 +33,7 @@ pub(crate) fn refusal(
     Answer::done(0)
         .unless(2, !d.is_direction())
         .unless(4, is_outside(entries, 2, LONGEST + 1))
-        .needing(5, size, shape.needed())
+        .needing(5, size, shape.bytes())
         .needing(7, spare, shape.scratch())
 }
 

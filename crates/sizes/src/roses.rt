@@ -11,7 +11,7 @@ use frame::{Direction, Shape};
 // What no sum of a frame reaches: every entry of a refused rose.
 const LARGEST: u64 = 18446744073709551615;
 
-// Rules 1, 5 and 7 for a frame of `size` pixels, with `spare` bytes of scratch: those of each row's sums, whose direction and entries break none.
+// Rules 1, 5 and 7 for a frame of `size` bytes, with `spare` bytes of scratch: those of each row's sums, whose direction and entries break none.
 fn refusal(shape: Shape, size: usize, spare: usize) -> Answer
     ensures { result ≡ answer (rose_rules shape size spare) 0 }
 {

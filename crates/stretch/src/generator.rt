@@ -44,9 +44,8 @@ fn open_first(line: &[Pixel], scratch: &mut [u8], at: Bookmark) -> Bookmark
         return at;
     }
     put(scratch, 0, read as u16, line[read]);
-    let next = read + 1;
     Bookmark {
-        read: next,
+        read: read + 1,
         depth: 1,
     }
 }

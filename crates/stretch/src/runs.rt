@@ -1,15 +1,13 @@
-// The open runs of a reading, as they lie in the lent scratch: a stack of four bytes a run, two of start and two of level.
-// The four are stored side by side, so that they go out at once, and a level is read back from within one store: nothing waits for another.
+// The open runs of a reading, as they lie in the lent scratch: a stack of four bytes a run, two of start, one of level and one free.
+// The level is stored and read as one byte: two bytes stored apart and read as a pair would make the reading wait.
 ghost use Rattle.std.specs.Prelude.{◌≡◌, ◌∷◌, suc, ◌+◌, ◌*◌, ◌≤◌, ◌<◌, max, length};
-ghost use Rattle.answer.specs.Limits.{brightest8};
 ghost use Rattle.bright.specs.Reading.{top_level, top_start};
 ghost use Rattle.bright.specs.Generator.{pair_at, put_pair, run8, stack_of};
 
 use crate::Pixel;
-use answer::BRIGHTEST8;
 
 pub(crate) fn wide(x: Pixel) -> u16
-    ensures { (result ≡ x) × (result ≤ brightest8) }
+    ensures { (result ≡ x) × (result < 256) }
 {
     x as u16
 }
@@ -20,17 +18,11 @@ pub(crate) fn brighter(a: Pixel, b: Pixel) -> Pixel
     if a < b { b } else { a }
 }
 
-fn byte(x: u8) -> u16
-    ensures { (result ≡ x) × (result < 256) }
-{
-    x as u16
-}
-
 pub(crate) fn pair_at(scratch: &[u8], at: usize) -> u16
     requires { at + 2 ≤ length scratch.now }
     ensures { result ≡ pair_at scratch.now at }
 {
-    byte(scratch[at]) + 256 * byte(scratch[at + 1])
+    wide(scratch[at]) + 256 * wide(scratch[at + 1])
 }
 
 pub(crate) fn put_pair(scratch: &mut [u8], at: usize, x: u16)
@@ -48,7 +40,7 @@ pub(crate) fn put(scratch: &mut [u8], i: usize, start: u16, level: Pixel)
 {
     let at = 4 * i;
     put_pair(scratch, at, start);
-    put_pair(scratch, at + 2, wide(level));
+    scratch[at + 2] = level;
 }
 
 // The level of the topmost of `depth` runs, 0 where there is none.
@@ -59,8 +51,7 @@ pub(crate) fn top_level(scratch: &[u8], depth: usize) -> Pixel
     if depth == 0 {
         return 0;
     }
-    let level = pair_at(scratch, 4 * (depth - 1) + 2);
-    (level as usize % (BRIGHTEST8 + 1)) as Pixel
+    scratch[4 * (depth - 1) + 2]
 }
 
 // The start of the topmost of `depth` runs, 0 where there is none.

@@ -1,34 +1,24 @@
 // How many bright stretches a line has.
-ghost use Rattle.std.specs.Prelude.{◌≡◌, suc, ◌≤◌, min, length};
-ghost use Rattle.answer.specs.Limits.{longest, brightest8};
+ghost use Rattle.std.specs.Prelude.{◌≡◌, length};
 ghost use Rattle.bright.specs.Stretches.{stretches};
-ghost use Rattle.bright.specs.Listing.{count_of};
 
 use crate::Pixel;
-use answer::{BRIGHTEST8, LONGEST};
-use bright::DEEPEST8;
 
-// How many runs can be open at once in a line of n pixels: their levels rise, and each has a pixel of its own.
-fn deepest(n: usize) -> usize
-    ensures { result ≡ min (suc brightest8) n }
-{
-    let levels = BRIGHTEST8 + 1;
-    if levels < n { levels } else { n }
-}
+// How many levels a pixel can have.
+const LEVELS: usize = 256;
 
-// The count of the stretches of a line that has a place for each run that can be open at once.
-fn counted(line: &[Pixel]) -> usize
-    requires { min (suc brightest8) (length line.now) ≤ longest }
+// The count of the bright stretches of a line of any length. It needs no scratch: the levels of the open runs rise, so that as many places as there are levels are enough.
+pub fn count(line: &[Pixel]) -> usize
     ensures { result ≡ length (stretches line.now) }
 {
-    let mut levels: [Pixel; DEEPEST8] = [0; DEEPEST8];
+    let mut levels: [Pixel; LEVELS] = [0; LEVELS];
     let mut depth: usize = 0;
     let mut total: usize = 0;
     let mut read: usize = 0;
     while read < line.len() {
         let v = line[read];
         if depth == 0 {
-            levels[depth] = v;
+            levels[0] = v;
             depth = 1;
             read += 1;
         } else {
@@ -46,15 +36,4 @@ fn counted(line: &[Pixel]) -> usize
         }
     }
     total + depth
-}
-
-// The count of the bright stretches of a line, without scratch: of one of any length where there are at most 4,096 levels, else of one of at most 4,096 pixels. Of
-// any other it is 0.
-pub fn count(line: &[Pixel]) -> usize
-    ensures { result ≡ count_of brightest8 line.now }
-{
-    if LONGEST < deepest(line.len()) {
-        return 0;
-    }
-    counted(line)
 }

@@ -7,16 +7,16 @@ use frame::{Direction, Shape};
 const REPORT: usize = 438336;
 
 // Prints one line: its number, its pixel count and its stretches. Answers whether it is printed.
-fn print_line(number: i64, line: &[u16]) -> bool {
+fn print_line(number: i64, line: &[u8]) -> bool {
     let mut out = [0u8; REPORT];
     let n = text::line_text(number, line, &mut out);
     console::show(&out, n)
 }
 
 // Gathers the line of a number and prints it. Answers whether it is printed.
-fn print_gathered(pixels: &[u16], shape: Shape, d: Direction, number: i64) -> bool {
-    let mut line = [0u16; LONGEST];
-    let a = gathering16::gather(pixels, shape, d, number, &mut line);
+fn print_gathered(pixels: &[u8], shape: Shape, d: Direction, number: i64) -> bool {
+    let mut line = [0u8; LONGEST];
+    let a = gathering::gather(pixels, shape, d, number, &mut line);
     if a.number != 0 {
         return false;
     }
@@ -28,7 +28,7 @@ fn print_gathered(pixels: &[u16], shape: Shape, d: Direction, number: i64) -> bo
 }
 
 // Prints the lines of a frame in ascending number, up to the first that cannot be printed: no line stands behind one that is missing.
-fn print_lines(pixels: &[u16], shape: Shape, d: Direction) {
+fn print_lines(pixels: &[u8], shape: Shape, d: Direction) {
     let lines = frame::lines_of(shape, d);
     let count = lines.count;
     let mut u: usize = 0;
@@ -42,7 +42,7 @@ fn print_lines(pixels: &[u16], shape: Shape, d: Direction) {
 
 // Reads a frame and prints its lines, or the refusal.
 fn answer_to(input: &[u8]) {
-    let mut pixels = [0u16; PIXELS];
+    let mut pixels = [0u8; PIXELS];
     let read = text::read_input(input, &mut pixels);
     let number = read.answer.number;
     if number != 0 {

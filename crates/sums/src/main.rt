@@ -18,7 +18,7 @@ fn print_sums(direction: usize, sums: &[u64]) {
 
 // Reads a frame and prints its sums, or the refusal.
 fn answer_to(input: &[u8]) {
-    let mut pixels = [0u16; PIXELS];
+    let mut pixels = [0u8; PIXELS];
     let read = text::read_input(input, &mut pixels);
     let number = read.answer.number;
     if number != 0 {
@@ -32,7 +32,7 @@ fn answer_to(input: &[u8]) {
     };
     let mut sums = [0u64; 4];
     let mut scratch = [0u8; SCRATCH];
-    let a = sizes16::sums_of_frame(
+    let a = sizes::sums_of_frame(
         &pixels,
         shape,
         Direction::numbered(read.direction),

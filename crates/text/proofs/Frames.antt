@@ -1,13 +1,13 @@
 -- What reading an input knows at each of its rules, and what it leaves.
 --   Below most vs            no value of vs is above `most`
 --   fields_below, line-below no value read is above `most`
---   rows-many, rows-below    the rows have height times width pixels, none above `most`
---   head_many, head_values   the first two lines have four numbers, which stand at the front of the buffer
+--   rows-many, rows-below    the rows have height times width pixels, each to 255
+--   head_many, head_values   the first two lines have three numbers, which stand at the front of the buffer
 --   stored-value             a value at the front of the buffer
---   refused-size, refused_head, refused-numbers    the answer, where a rule for the size or for the first two lines is broken
+--   refused-size, refused_head, refused_numbers    the answer, where a rule for the size or for the first two lines is broken
 --   headed                   the first two lines, where they break no rule
 --   rows_tested, tests_refused, tests_rows    what the tests leave
---   input_fits, input_many, input_value, input_small, input_room, input_pixels    what they leave of an input that is not refused
+--   input_fits, input_many, input_value, input_small, input_room, input_below, input_pixels    what they leave of an input that is not refused
 --   handing, input_refused, input_done    what the call hands back
 -- Assumes nothing.
 use mathlib.Core.Path.{◌≡◌, refl, sym, ap, ◌∙◌}
@@ -18,7 +18,7 @@ use native.Mathlib.Nat.{suc-mul, mul_comm}
 use native.Mathlib.Omega.{arith}
 use lib.Dec.{ltb}
 use lib.ListN.{length, get_or, take, drop, length-append, get_or-append}
-use lib.Seq.{sets, drop_at, take_at, length-sets}
+use lib.Seq.{sets, drop_at, take_at, length-sets, get_or-append-add}
 use borrow.Author.Tests.{lt-ltb, le-ltb, ltb-false, not-false}
 use Rattle.lists.proofs.Cases.{both_left}
 use Rattle.answer.specs.declared.Answer.{Answer}
@@ -29,11 +29,11 @@ use Rattle.text.specs.declared.input.Input.{Input}
 use Rattle.text.specs.declared.reading.Mark.{Mark}
 use Rattle.text.specs.Lines.{feed}
 use Rattle.text.specs.Reading.{largest_number, Values, valued, no_values, before, starts, field_of, fields_of, ended, line_of, rows_of}
-use Rattle.text.specs.Inputs.{longest_input, size_of, head_of, direction_in, width_in, height_in, bits_in, brightest_of, rows_in, input_rules, input_of}
+use Rattle.text.specs.Inputs.{longest_input, head_of, direction_in, width_in, height_in, rows_in, input_rules, input_of}
 use Rattle.text.specs.Steps.{Stores, number_rules, Headed, TestsRows, Tests}
 use Rattle.text.proofs.Runs.{sets_join, sets_front}
 use Rattle.text.proofs.Readings.{field_bound}
-use Rattle.text.proofs.Goings.{line-many, size-many}
+use Rattle.text.proofs.Goings.{line-many}
 
 -- ---- values in their range
 
@@ -75,50 +75,50 @@ line-below b most n s e = below_letter most (starts b s) (fields_of most n (drop
 
 -- ---- rows
 
-below_rows : (most : ℕ) (b : Bool) (xs : List ℕ) (r : Values) → (b ≡ true → Below most xs) → (r.found ≡ true → Below most r.values) → (cond b (before xs r) no_values).found ≡ true
-    → Below most (cond b (before xs r) no_values).values
-below_rows most true xs r h c e = below-append most xs r.values (h refl) (c e)
-below_rows most false xs r h c e = absurd (false≢true e)
+below_rows : (b : Bool) (xs : List ℕ) (r : Values) → (b ≡ true → Below 255 xs) → (r.found ≡ true → Below 255 r.values) → (cond b (before xs r) no_values).found ≡ true
+    → Below 255 (cond b (before xs r) no_values).values
+below_rows true xs r h c e = below-append 255 xs r.values (h refl) (c e)
+below_rows false xs r h c e = absurd (false≢true e)
 
-pub rows-below : (most h w : ℕ) (s : List ℕ) → (rows_of most h w s).found ≡ true → Below most (rows_of most h w s).values
+pub rows-below : (h w : ℕ) (s : List ℕ) → (rows_of h w s).found ≡ true → Below 255 (rows_of h w s).values
 unfolding rows_of
-rows-below most zero w [] e = λ k. zero-le
-rows-below most zero w (c ∷ s) e = absurd (false≢true e)
-rows-below most (suc h) w s e =
-    below_rows most (line_of 82 most w s).found (line_of 82 most w s).values (rows_of most h w (line_of 82 most w s).rest) (line-below 82 most w s) (rows-below most h w (line_of 82 most w s).rest) e
+rows-below zero w [] e = λ k. zero-le
+rows-below zero w (c ∷ s) e = absurd (false≢true e)
+rows-below (suc h) w s e =
+    below_rows (line_of 82 255 w s).found (line_of 82 255 w s).values (rows_of h w (line_of 82 255 w s).rest) (line-below 82 255 w s) (rows-below h w (line_of 82 255 w s).rest) e
 
 many-rows : (h w : ℕ) (b : Bool) (xs : List ℕ) (r : Values) → (b ≡ true → length xs ≡ w) → (r.found ≡ true → length r.values ≡ h * w) → (cond b (before xs r) no_values).found ≡ true
     → length (cond b (before xs r) no_values).values ≡ suc h * w
 many-rows h w true xs r m c e = length-append xs r.values ∙ omega (arith, m refl, c e, suc-mul h w)
 many-rows h w false xs r m c e = absurd (false≢true e)
 
-pub rows-many : (most h w : ℕ) (s : List ℕ) → (rows_of most h w s).found ≡ true → length (rows_of most h w s).values ≡ h * w
+pub rows-many : (h w : ℕ) (s : List ℕ) → (rows_of h w s).found ≡ true → length (rows_of h w s).values ≡ h * w
 unfolding rows_of
-rows-many most zero w [] e = omega arith
-rows-many most zero w (c ∷ s) e = absurd (false≢true e)
-rows-many most (suc h) w s e =
-    many-rows h w (line_of 82 most w s).found (line_of 82 most w s).values (rows_of most h w (line_of 82 most w s).rest) (line-many 82 most w s) (rows-many most h w (line_of 82 most w s).rest) e
+rows-many zero w [] e = omega arith
+rows-many zero w (c ∷ s) e = absurd (false≢true e)
+rows-many (suc h) w s e =
+    many-rows h w (line_of 82 255 w s).found (line_of 82 255 w s).values (rows_of h w (line_of 82 255 w s).rest) (line-many 82 255 w s) (rows-many h w (line_of 82 255 w s).rest) e
 
 -- ---- the first two lines
 
-many_head : (b : Bool) (xs : List ℕ) (r : Values) → (b ≡ true → length xs ≡ 1) → (r.found ≡ true → length r.values ≡ 3) → (cond b (before xs r) no_values).found ≡ true
-    → length (cond b (before xs r) no_values).values ≡ 4
+many_head : (b : Bool) (xs : List ℕ) (r : Values) → (b ≡ true → length xs ≡ 1) → (r.found ≡ true → length r.values ≡ 2) → (cond b (before xs r) no_values).found ≡ true
+    → length (cond b (before xs r) no_values).values ≡ 3
 many_head true xs r m c e = length-append xs r.values ∙ omega (arith, m refl, c e)
 many_head false xs r m c e = absurd (false≢true e)
 
-pub head_many : (s : List ℕ) → (head_of s).found ≡ true → length (head_of s).values ≡ 4
+pub head_many : (s : List ℕ) → (head_of s).found ≡ true → length (head_of s).values ≡ 3
 unfolding head_of
 head_many s e =
-    many_head (line_of 68 largest_number 1 s).found (line_of 68 largest_number 1 s).values (size_of (line_of 68 largest_number 1 s).rest) (line-many 68 largest_number 1 s) (size-many (line_of 68 largest_number 1 s).rest) e
+    many_head (line_of 68 largest_number 1 s).found (line_of 68 largest_number 1 s).values (line_of 70 largest_number 2 (line_of 68 largest_number 1 s).rest) (line-many 68 largest_number 1 s) (line-many 70 largest_number 2 (line_of 68 largest_number 1 s).rest) e
 
 -- a value stored from the first entry on
 pub stored-value : (vs xs : List ℕ) (k : ℕ) → length xs ≤ length vs → k < length xs → get_or (sets vs 0 xs) k 0 ≡ get_or xs k 0
 stored-value vs xs k fit h = rw (sets_front vs xs fit) (get_or-append xs (drop (length xs) vs) 0 k h)
 
-pub head_values : (s vs vs' : List ℕ) (r : Mark) → Stores (head_of s) s 0 0 vs vs' r → r.found ≡ true → 4 ≤ length vs → (k : ℕ) → k < 4 → get_or vs' k 0 ≡ get_or (head_of s).values k 0
+pub head_values : (s vs vs' : List ℕ) (r : Mark) → Stores (head_of s) s 0 0 vs vs' r → r.found ≡ true → 3 ≤ length vs → (k : ℕ) → k < 3 → get_or vs' k 0 ≡ get_or (head_of s).values k 0
 head_values s vs vs' r first f fit k h =
-    let four = head_many s (sym first.found ∙ f) in
-    rw (first.stored f) (stored-value vs (head_of s).values k (omega (arith, four)) (omega (arith, four)))
+    let three = head_many s (sym first.found ∙ f) in
+    rw (first.stored f) (stored-value vs (head_of s).values k (omega (arith, three)) (omega (arith, three)))
 
 -- ---- the answer
 
@@ -132,8 +132,8 @@ module _ (s : List ℕ) (room : ℕ) where
 
     module _ (head : (head_of s).found ≡ true) where
       -- the answer of the numbers' rules, where one of them is broken
-      pub refused-numbers : (a : Answer) → a ≡ answer (number_rules (direction_in s) (width_in s) (height_in s)) 0 → (a.number ≡ 0 → ⊥) → answer (input_rules s room) 0 ≡ a
-      refused-numbers a e ne = go (outside 1 longest (width_in s)) refl (outside 1 longest (height_in s)) refl (ltb 15 (direction_in s)) refl
+      pub refused_numbers : (a : Answer) → a ≡ answer (number_rules (direction_in s) (width_in s) (height_in s)) 0 → (a.number ≡ 0 → ⊥) → answer (input_rules s room) 0 ≡ a
+      refused_numbers a e ne = go (outside 1 longest (width_in s)) refl (outside 1 longest (height_in s)) refl (ltb 15 (direction_in s)) refl
         where
           go : (t : Bool) → outside 1 longest (width_in s) ≡ t → (u : Bool) → outside 1 longest (height_in s) ≡ u → (v : Bool) → ltb 15 (direction_in s) ≡ v
               → answer (input_rules s room) 0 ≡ a
@@ -162,16 +162,15 @@ headed s vs vs₁ head d w h a first f size large d-is w-is h-is e z =
       wide = rw w-is at k.0;
       high = rw h-is at k.1.0;
       numbered = ltb-false 15 (direction_in s) (rw d-is at k.1.1.0);
-      bits = head_values s vs vs₁ head first f (omega (arith, large)) 3 (omega arith);
       rest = first.rest f;
       room = record { inside = first.inside f; fewer = omega (arith, first.far f, head_many s there); large = omega (arith, same) };
     }
 
 -- the rows behind such lines, as they were read
-module _ {s : List ℕ} {at w h : ℕ} {vs vs' : List ℕ} {r : Mark} (head : Headed s at w h vs) (room : ℕ) (most : ℕ) (limit : most ≡ brightest_of (get_or vs 3 0)) (stores : Stores (rows_of most h w (drop at s)) s at 4 vs vs' r) where
-  read : Stores (rows_in s) s at 4 vs vs' r
+module _ {s : List ℕ} {at w h : ℕ} {vs vs' : List ℕ} {r : Mark} (head : Headed s at w h vs) (room : ℕ) (stores : Stores (rows_of h w (drop at s)) s at 3 vs vs' r) where
+  read : Stores (rows_in s) s at 3 vs vs' r
   read =
-      let same : rows_of most h w (drop at s) ≡ rows_in s = rw (limit, head.bits, head.width, head.height, head.rest) in
+      let same : rows_of h w (drop at s) ≡ rows_in s = rw (head.width, head.height, head.rest) in
       rw same at stores
 
   -- the last two rules, checked one after the other
@@ -189,10 +188,10 @@ module _ {s : List ℕ} {at w h : ℕ} {vs vs' : List ℕ} {r : Mark} (head : He
 pub tests_rows : (s : List ℕ) (room : ℕ) (vs vs₁ vs₂ : List ℕ) (head : Mark) (a : Answer) → Stores (head_of s) s 0 0 vs vs₁ head → head.found ≡ true → length s ≤ longest_input
     → TestsRows s room head.next vs₁ vs₂ a → Tests s room vs vs₂ a
 tests_rows s room vs vs₁ vs₂ head a first f size rows =
-    let four = head_many s (sym first.found ∙ f) in
+    let three = head_many s (sym first.found ∙ f) in
     record {
       answers = rows.answers;
-      stored = λ z. rows.stored z ∙ rw (first.stored f) (sets_join vs (head_of s).values (rows_in s).values 4 four);
+      stored = λ z. rows.stored z ∙ rw (first.stored f) (sets_join vs (head_of s).values (rows_in s).values 3 three);
       fits = λ z. omega (arith, first.far f, rows.fits z, length-append (head_of s).values (rows_in s).values);
     }
 
@@ -205,57 +204,64 @@ module _ (s : List ℕ) (room : ℕ) (vs vs' : List ℕ) (a : Answer) (tests : T
       (not-false (head_of s).found k.1.0, not-false (rows_in s).found k.1.1.1.1.1.0, ltb-false room (width_in s * height_in s) k.1.1.1.1.1.1.0)
 
   pub input_many : length (rows_in s).values ≡ width_in s * height_in s
-  input_many = rows-many (brightest_of (bits_in s)) (height_in s) (width_in s) (head_of s).rest input_fits.1 ∙ mul_comm (height_in s) (width_in s)
+  input_many = rows-many (height_in s) (width_in s) (head_of s).rest input_fits.1 ∙ mul_comm (height_in s) (width_in s)
 
   whole : vs' ≡ (head_of s).values ++ ((rows_in s).values ++ drop (length ((head_of s).values ++ (rows_in s).values)) vs)
   whole =
       tests.stored z ∙ sets_front vs ((head_of s).values ++ (rows_in s).values) (omega (arith, tests.fits z))
       ∙ append_assoc (head_of s).values (rows_in s).values (drop (length ((head_of s).values ++ (rows_in s).values)) vs)
 
-  pub input_value : (k : ℕ) → k < 4 → get_or vs' k 0 ≡ get_or (head_of s).values k 0
+  pub input_value : (k : ℕ) → k < 3 → get_or vs' k 0 ≡ get_or (head_of s).values k 0
   input_value k h =
-      let four = head_many s input_fits.0 in
-      rw whole (get_or-append (head_of s).values ((rows_in s).values ++ drop (length ((head_of s).values ++ (rows_in s).values)) vs) 0 k (omega (arith, four)))
+      let three = head_many s input_fits.0 in
+      rw whole (get_or-append (head_of s).values ((rows_in s).values ++ drop (length ((head_of s).values ++ (rows_in s).values)) vs) 0 k (omega (arith, three)))
 
   pub input_small : width_in s * height_in s < longest_input
   input_small = omega (arith, tests.fits z, length-append (head_of s).values (rows_in s).values, head_many s input_fits.0, input_many)
 
-  pub input_room : 4 + width_in s * height_in s ≤ length vs'
+  pub input_room : 3 + width_in s * height_in s ≤ length vs'
   input_room =
       let same = ap length (tests.stored z) ∙ length-sets vs 0 ((head_of s).values ++ (rows_in s).values) in
       omega (arith, same, tests.fits z, length-append (head_of s).values (rows_in s).values, head_many s input_fits.0, input_many)
 
-  pub input_pixels : take (width_in s * height_in s) (drop 4 vs') ≡ (rows_in s).values
+  pub input_below : (k : ℕ) → k < width_in s * height_in s → get_or vs' (3 + k) 0 ≤ 255
+  input_below k h =
+      let t = drop (length ((head_of s).values ++ (rows_in s).values)) vs in
+      let place : 3 + k ≡ length (head_of s).values + k = omega (arith, head_many s input_fits.0) in
+      let there = get_or-append-add (head_of s).values ((rows_in s).values ++ t) k 0 ∙ get_or-append (rows_in s).values t 0 k (omega (arith, input_many)) in
+      rw (whole, place, there) (rows-below (height_in s) (width_in s) (head_of s).rest input_fits.1 k)
+
+  pub input_pixels : take (width_in s * height_in s) (drop 3 vs') ≡ (rows_in s).values
   input_pixels =
       let t = drop (length ((head_of s).values ++ (rows_in s).values)) vs in
-      rw (whole, drop_at (head_of s).values ((rows_in s).values ++ t) 4 (head_many s input_fits.0)) (take_at (rows_in s).values t (width_in s * height_in s) input_many)
+      rw (whole, drop_at (head_of s).values ((rows_in s).values ++ t) 3 (head_many s input_fits.0)) (take_at (rows_in s).values t (width_in s * height_in s) input_many)
 
 -- ---- what the call hands back
 
-abbrev pub handing : Answer → ℕ → ℕ → ℕ → ℕ → Input
-handing a d w h b = record { answer = a; direction = d; width = w; height = h; bits = b }
+abbrev pub handing : Answer → ℕ → ℕ → ℕ → Input
+handing a d w h = record { answer = a; direction = d; width = w; height = h }
 
--- the four numbers, or zeros, by an answer's number
-by : Answer → ℕ → ℕ → ℕ → ℕ → ℕ → Input
-by a n d w h b = handing a (by_number n d 0) (by_number n w 0) (by_number n h 0) (by_number n b 0)
+-- the three numbers, or zeros, by an answer's number
+by : Answer → ℕ → ℕ → ℕ → ℕ → Input
+by a n d w h = handing a (by_number n d 0) (by_number n w 0) (by_number n h 0)
 
-by-refused : (a : Answer) (n d w h b : ℕ) → (n ≡ 0 → ⊥) → handing a 0 0 0 0 ≡ by a n d w h b
+by-refused : (a : Answer) (n d w h : ℕ) → (n ≡ 0 → ⊥) → handing a 0 0 0 ≡ by a n d w h
 unfolding by
-by-refused a zero d w h b ne = absurd (ne refl)
-by-refused a (suc n) d w h b ne = refl
+by-refused a zero d w h ne = absurd (ne refl)
+by-refused a (suc n) d w h ne = refl
 
-by-done : (a : Answer) (n d w h b : ℕ) → n ≡ 0 → handing a d w h b ≡ by a n d w h b
+by-done : (a : Answer) (n d w h : ℕ) → n ≡ 0 → handing a d w h ≡ by a n d w h
 unfolding by
-by-done a zero d w h b z = refl
-by-done a (suc n) d w h b z = absurd (omega arith)
+by-done a zero d w h z = refl
+by-done a (suc n) d w h z = absurd (omega arith)
 
 module _ (s : List ℕ) (room : ℕ) (a : Answer) (e : a ≡ answer (input_rules s room) 0) where
-  handed : by a a.number (direction_in s) (width_in s) (height_in s) (bits_in s) ≡ input_of s room
+  handed : by a a.number (direction_in s) (width_in s) (height_in s) ≡ input_of s room
   unfolding by
-  handed = ap (λ (x : Answer). by x x.number (direction_in s) (width_in s) (height_in s) (bits_in s)) e
+  handed = ap (λ (x : Answer). by x x.number (direction_in s) (width_in s) (height_in s)) e
 
-  pub input_refused : (a.number ≡ 0 → ⊥) → handing a 0 0 0 0 ≡ input_of s room
-  input_refused ne = by-refused a a.number (direction_in s) (width_in s) (height_in s) (bits_in s) ne ∙ handed
+  pub input_refused : (a.number ≡ 0 → ⊥) → handing a 0 0 0 ≡ input_of s room
+  input_refused ne = by-refused a a.number (direction_in s) (width_in s) (height_in s) ne ∙ handed
 
-  pub input_done : (d w h b : ℕ) → a.number ≡ 0 → d ≡ direction_in s → w ≡ width_in s → h ≡ height_in s → b ≡ bits_in s → handing a d w h b ≡ input_of s room
-  input_done d w h b z p q r t = rw (p, q, r, t) (by-done a a.number (direction_in s) (width_in s) (height_in s) (bits_in s) z ∙ handed)
+  pub input_done : (d w h : ℕ) → a.number ≡ 0 → d ≡ direction_in s → w ≡ width_in s → h ≡ height_in s → handing a d w h ≡ input_of s room
+  input_done d w h z p q r = rw (p, q, r) (by-done a a.number (direction_in s) (width_in s) (height_in s) z ∙ handed)

@@ -6,8 +6,6 @@
 --   row_next, row-broken, rows-past, rows_more        one row more, or none; the end of the text, or more of it
 --   stores_none, going-broken    nothing was read
 --   fields_many, line-many       as many values as were asked for
---   size-read, size_letter, size_fields, size-bits    the `F` line, or none
---   size-many                    its three values
 --   head_read, head_broken       the first two lines, or none
 -- Assumes nothing.
 use mathlib.Core.Path.{◌≡◌, refl, sym, ap, ◌∙◌}
@@ -22,7 +20,7 @@ use Rattle.text.specs.declared.reading.Number.{Number}
 use Rattle.text.specs.declared.reading.Mark.{Mark}
 use Rattle.text.specs.Lines.{feed}
 use Rattle.text.specs.Reading.{largest_number, Values, valued, no_values, before, starts, field_of, fields_of, ended, line_of, rows_of}
-use Rattle.text.specs.Inputs.{bits_of, with_bits, size_of, head_of}
+use Rattle.text.specs.Inputs.{head_of}
 use Rattle.text.specs.Steps.{no_mark, Reads, Stores}
 use Rattle.text.proofs.Runs.{sets_more, sets_join}
 use Rattle.text.proofs.Readings.{drop_past, drop-step, behind-one}
@@ -147,57 +145,6 @@ pub line-many : (b most n : ℕ) (s : List ℕ) → (line_of b most n s).found �
 unfolding line_of
 line-many b most n s e = many_letter n (starts b s) (fields_of most n (drop 1 s)) (fields_many most n (drop 1 s)) e
 
--- ---- the `F` line
-
-module _ (s : List ℕ) (at : ℕ) (vs : List ℕ) where
-  pub size_letter : starts 70 (drop at s) ≡ false → (size_of (drop at s)).found ≡ false
-  unfolding size_of
-  size_letter e = simp e
-
-  module _ (vs' : List ℕ) (r : Mark) (letter : starts 70 (drop at s) ≡ true) (fields : Stores (fields_of largest_number 2 (drop (at + 1) s)) s (at + 1) 1 vs vs' r) where
-    pub size_fields : r.found ≡ false → (size_of (drop at s)).found ≡ false
-    unfolding size_of
-    size_fields e = simp (letter, behind-one s at, sym fields.found ∙ e)
-
-    module _ (low : ℕ) (b : Number) (found : r.found ≡ true) (bits : Reads (bits_of (drop r.next s)) s low b) where
-      pub size-bits : b.found ≡ false → (size_of (drop at s)).found ≡ false
-      unfolding size_of
-      size-bits e = simp (letter, behind-one s at, sym fields.found ∙ found, sym (fields.rest found), sym bits.found ∙ e)
-
-      whole-size : b.found ≡ true → size_of (drop at s) ≡ valued ((fields_of largest_number 2 (drop (at + 1) s)).values ++ (b.value ∷ [])) (drop b.next s)
-      unfolding size_of
-      whole-size e =
-          simp (letter, behind-one s at, sym fields.found ∙ found, sym (fields.rest found), sym bits.found ∙ e, sym (bits.value e), sym (bits.rest e))
-
-      pub size-read : b.found ≡ true → r.next < b.next → Stores (size_of (drop at s)) s at 1 vs (sets vs' 3 (b.value ∷ [])) (record { found = true; next = b.next })
-      size-read e h =
-          let w = whole-size e in
-          let two = fields_many largest_number 2 (drop (at + 1) s) (sym fields.found ∙ found) in
-          let values = ap (λ (m : Values). m.values) w in
-          let place : 3 ≡ 1 + length (fields_of largest_number 2 (drop (at + 1) s)).values = omega (arith, two) in
-          record {
-            found = sym (ap (λ (m : Values). m.found) w);
-            stored = λ _. rw (fields.stored found, place) (sets_more vs 1 (fields_of largest_number 2 (drop (at + 1) s)).values (b.value ∷ [])) ∙ ap (sets vs 1) (sym values);
-            rest = λ _. sym (ap (λ (m : Values). m.rest) w);
-            far = λ _. omega (arith, fields.far found, two, ap length values ∙ length-append (fields_of largest_number 2 (drop (at + 1) s)).values (b.value ∷ []));
-            inside = λ _. bits.inside e;
-          }
-
-many-bits : (b a : Bool) (v : ℕ) (t : List ℕ) (r : Values) → (r.found ≡ true → length r.values ≡ 2) → (r.found && a) ≡ b
-    → (cond b (valued (r.values ++ (v ∷ [])) t) no_values).found ≡ true → length (cond b (valued (r.values ++ (v ∷ [])) t) no_values).values ≡ 3
-many-bits true a v t r h q e = length-append r.values (v ∷ []) ∙ omega (arith, h (both_left r.found a q))
-many-bits false a v t r h q e = absurd (false≢true e)
-
-many-size : (b : Bool) (r : Values) → (r.found ≡ true → length r.values ≡ 2) → (cond b (with_bits r) no_values).found ≡ true
-    → length (cond b (with_bits r) no_values).values ≡ 3
-many-size true r h e =
-    many-bits (r.found && (bits_of r.rest).found) (bits_of r.rest).found (bits_of r.rest).value (bits_of r.rest).rest r h refl e
-many-size false r h e = absurd (false≢true e)
-
-pub size-many : (s : List ℕ) → (size_of s).found ≡ true → length (size_of s).values ≡ 3
-unfolding size_of
-size-many s e = many-size (starts 70 s) (fields_of largest_number 2 (drop 1 s)) (fields_many largest_number 2 (drop 1 s)) e
-
 -- ---- the first two lines
 
 module _ (s vs vs' : List ℕ) (r : Mark) (first : Stores (line_of 68 largest_number 1 s) s 0 0 vs vs' r) where
@@ -205,14 +152,14 @@ module _ (s vs vs' : List ℕ) (r : Mark) (first : Stores (line_of 68 largest_nu
   unfolding head_of
   head_broken f = simp (sym first.found ∙ f)
 
-  both-lines : r.found ≡ true → head_of s ≡ before (line_of 68 largest_number 1 s).values (size_of (drop r.next s))
+  both-lines : r.found ≡ true → head_of s ≡ before (line_of 68 largest_number 1 s).values (line_of 70 largest_number 2 (drop r.next s))
   unfolding head_of
   both-lines f = rw (first.rest f) (simp (sym first.found ∙ f))
 
-  pub head_read : {vs'' : List ℕ} {r' : Mark} → r.found ≡ true → Stores (size_of (drop r.next s)) s r.next 1 vs' vs'' r' → Stores (head_of s) s 0 0 vs vs'' r'
+  pub head_read : {vs'' : List ℕ} {r' : Mark} → r.found ≡ true → Stores (line_of 70 largest_number 2 (drop r.next s)) s r.next 1 vs' vs'' r' → Stores (head_of s) s 0 0 vs vs'' r'
   head_read {vs''} {r'} f second =
       let d = (line_of 68 largest_number 1 s).values in
-      let e = (size_of (drop r.next s)).values in
+      let e = (line_of 70 largest_number 2 (drop r.next s)).values in
       let w = both-lines f in
       let one = line-many 68 largest_number 1 s (sym first.found ∙ f) in
       let values = ap (λ (m : Values). m.values) w in
@@ -226,21 +173,21 @@ module _ (s vs vs' : List ℕ) (r : Mark) (first : Stores (line_of 68 largest_nu
 
 -- ---- rows
 
-module _ (most h i w : ℕ) (s : List ℕ) (at from : ℕ) (vs vs' : List ℕ) (r : Mark) (line : Stores (line_of 82 most w (drop at s)) s at from vs vs' r) where
-  pub row_next : i < h → r.found ≡ true → rows_of most (h - i) w (drop at s) ≡ before (line_of 82 most w (drop at s)).values (rows_of most (h - (i + 1)) w (drop r.next s))
+module _ (h i w : ℕ) (s : List ℕ) (at from : ℕ) (vs vs' : List ℕ) (r : Mark) (line : Stores (line_of 82 255 w (drop at s)) s at from vs vs' r) where
+  pub row_next : i < h → r.found ≡ true → rows_of (h - i) w (drop at s) ≡ before (line_of 82 255 w (drop at s)).values (rows_of (h - (i + 1)) w (drop r.next s))
   unfolding rows_of
   row_next l f =
       let e : h - i ≡ suc (h - (i + 1)) = omega arith in
       rw (e, line.rest f) (simp (sym line.found ∙ f))
 
-  pub row-broken : i < h → r.found ≡ false → (rows_of most (h - i) w (drop at s)).found ≡ false
+  pub row-broken : i < h → r.found ≡ false → (rows_of (h - i) w (drop at s)).found ≡ false
   unfolding rows_of
   row-broken l f = let e : h - i ≡ suc (h - (i + 1)) = omega arith in rw e (simp (sym line.found ∙ f))
 
-pub rows-past : (most h i w : ℕ) (s : List ℕ) (at : ℕ) → h ≤ i → length s ≤ at → rows_of most (h - i) w (drop at s) ≡ valued [] (drop at s)
+pub rows-past : (h i w : ℕ) (s : List ℕ) (at : ℕ) → h ≤ i → length s ≤ at → rows_of (h - i) w (drop at s) ≡ valued [] (drop at s)
 unfolding rows_of
-rows-past most h i w s at l past = let e : h - i ≡ zero = omega arith in rw (e, drop_past s at past)
+rows-past h i w s at l past = let e : h - i ≡ zero = omega arith in rw (e, drop_past s at past)
 
-pub rows_more : (most h i w : ℕ) (s : List ℕ) (at : ℕ) → h ≤ i → at < length s → (rows_of most (h - i) w (drop at s)).found ≡ false
+pub rows_more : (h i w : ℕ) (s : List ℕ) (at : ℕ) → h ≤ i → at < length s → (rows_of (h - i) w (drop at s)).found ≡ false
 unfolding rows_of
-rows_more most h i w s at l more = let e : h - i ≡ zero = omega arith in rw (e, drop-step s at more)
+rows_more h i w s at l more = let e : h - i ≡ zero = omega arith in rw (e, drop-step s at more)

@@ -1,22 +1,21 @@
 -- The programs' input: what is read is there as text, and what is there as text is read.
---   number-sound, field_sound, fields_sound, line-sound, bits-sound, size-sound, rows-sound    a text starts with what is found in it
---   number-found, fields_found, line-found, bits-found, size-found, rows-found                 what a text starts with is found
---   head_bits        the bits that are found are 8 or 16
+--   number-sound, field_sound, fields_sound, line-sound, rows-sound    a text starts with what is found in it
+--   number-found, fields_found, line-found, rows-found                 what a text starts with is found
 --   frame-read       a text in which the first two lines and the rows are found is the text of the frame that is read
 --   head_found, frame-written    in the text of a frame both are found, and the frame is read from it
 --   accepted-text, text-accepted the texts that no rule refuses are those of the frames whose numbers are in their ranges
---   input_example    the input of document 01's example; input_example16: one of 16 bits
+--   input_example    the input of document 01's example
 -- Assumes nothing.
-use mathlib.Core.Path.{◌≡◌, refl, sym, ap, ap₂, subst, ◌∙◌}
+use mathlib.Core.Path.{◌≡◌, refl, sym, ap, ap₂, ◌∙◌}
 use mathlib.Core.Bool.{Bool, true, false, cond, ◌&&◌, false≢true}
 use mathlib.Core.List.{List, [], ◌∷◌, ◌++◌, append_assoc}
-use mathlib.Core.Logic.{◌⊎◌, inl, inr, ⊎_elim}
+use mathlib.Core.Logic.{⊎_elim}
 use Prim.Native.Nat.{ℕ, zero, suc, ◌+◌, ◌-◌, ◌*◌, ◌/◌, ◌%◌, ◌≤◌, ◌<◌}
 use native.Mathlib.Nat.{suc-mul, le_refl}
 use native.Mathlib.Omega.{arith}
 use lib.Dec.{ltb, leb, eqb}
 use lib.ListN.{length, get_or, take, drop, take-append-drop, length-drop}
-use lib.Seq.{take_at, drop_at, length-take-le, get_or-append-add}
+use lib.Seq.{take_at, drop_at, length-take-le}
 use borrow.Author.Tests.{lt-ltb, le-ltb, le-leb, eqb-true, eq-eqb, not-false}
 use Rattle.answer.specs.Limits.{longest}
 use Rattle.answer.specs.Rules.{answer, done, outside}
@@ -27,10 +26,10 @@ use Rattle.lists.proofs.Members.{all_take, all_drop}
 use Rattle.text.specs.Decimal.{digits, decimal}
 use Rattle.text.specs.Lines.{tab, feed, fields_text, line_text}
 use Rattle.text.specs.Reading.{largest_number, is_digit, goes_on, Numeral, numeral, no_numeral, number_on, number_of, starts, at_most, field_of, Values, valued, no_values, before, fields_of, ended, line_of, rows_of}
-use Rattle.text.specs.Inputs.{longest_input, rows_text, bits_fields, frame_text, sixteen, bits_of, with_bits, size_of, head_of, direction_in, width_in, height_in, bits_in, brightest_of, rows_in, input_rules}
+use Rattle.text.specs.Inputs.{longest_input, rows_text, frame_text, head_of, direction_in, width_in, height_in, rows_in, input_rules}
 use Rattle.text.proofs.Decimals.{decimal-one, decimal-more}
-use Rattle.text.proofs.Readings.{digit_facts, goes_facts, brightest_bound}
-use Rattle.text.proofs.Goings.{fields_many, line-many}
+use Rattle.text.proofs.Readings.{digit_facts, goes_facts}
+use Rattle.text.proofs.Goings.{line-many}
 
 -- ---- numbers
 
@@ -155,37 +154,36 @@ fields_sound most (suc n) s e = go (fields_sound most n (field_of most s).rest) 
 abbrev pub Within : ℕ → List ℕ → Type 0
 Within most vs = All (λ (v : ℕ). v ≤ most) vs
 
--- what follows a field is a tab, or what follows them all
-field_stops : (vs t : List ℕ) → Stops t → Stops (fields_text vs ++ t)
+-- what follows a field is a tab or the line feed
+field_stops : (vs t : List ℕ) → Stops (fields_text vs ++ (feed ∷ t))
 unfolding fields_text
-field_stops [] t stop = stop
-field_stops (x ∷ vs) t stop = λ v. stops v tab (decimal x ++ fields_text vs ++ t) refl
+field_stops [] t = λ v. stops v feed t refl
+field_stops (x ∷ vs) t = λ v. stops v tab (decimal x ++ fields_text vs ++ (feed ∷ t)) refl
 
-pub fields_found : (most : ℕ) (vs t : List ℕ) → most ≤ largest_number → Within most vs → Stops t → fields_of most (length vs) (fields_text vs ++ t) ≡ valued vs t
+pub fields_found : (most : ℕ) (vs t : List ℕ) → most ≤ largest_number → Within most vs → fields_of most (length vs) (fields_text vs ++ (feed ∷ t)) ≡ valued vs (feed ∷ t)
 unfolding fields_of fields_text All
-fields_found most [] t range w stop = refl
-fields_found most (v ∷ vs) t range w stop =
-    let here = field_found most v (fields_text vs ++ t) w.0 range (field_stops vs t stop) in
-    rw (append_assoc (tab ∷ decimal v) (fields_text vs) t, here, fields_found most vs t range w.1 stop)
+fields_found most [] t range w = refl
+fields_found most (v ∷ vs) t range w =
+    let here = field_found most v (fields_text vs ++ (feed ∷ t)) w.0 range (field_stops vs t) in
+    rw (append_assoc (tab ∷ decimal v) (fields_text vs) (feed ∷ t), here, fields_found most vs t range w.1)
 
 -- ---- lines
-
--- what starts with a line feed
-closed : (t : List ℕ) → starts feed t ≡ true → t ≡ feed ∷ drop 1 t
-closed [] q = absurd (false≢true q)
-closed (d ∷ t) q = ap (λ (x : ℕ). x ∷ t) (eqb-true d feed q)
 
 pub line-sound : (b most n : ℕ) (s : List ℕ) → (line_of b most n s).found ≡ true → s ≡ line_text b (line_of b most n s).values ++ (line_of b most n s).rest
 unfolding line_of
 line-sound b most n [] e = absurd (false≢true e)
 line-sound b most n (c ∷ s) e = go (eqb c b) refl e
   where
+    closed : (vs t : List ℕ) → starts feed t ≡ true → t ≡ feed ∷ drop 1 t
+    closed vs [] q = absurd (false≢true q)
+    closed vs (d ∷ t) q = ap (λ (x : ℕ). x ∷ t) (eqb-true d feed q)
+
     kept : (r : Values) → (r.found ≡ true → s ≡ fields_text r.values ++ r.rest) → (a : Bool) → (r.found && starts feed r.rest) ≡ a
         → (cond a (valued r.values (drop 1 r.rest)) no_values).found ≡ true
         → s ≡ (fields_text (cond a (valued r.values (drop 1 r.rest)) no_values).values ++ (feed ∷ [])) ++ (cond a (valued r.values (drop 1 r.rest)) no_values).rest
     kept r h true q f =
         h (both_left r.found (starts feed r.rest) q)
-        ∙ ap (λ (l : List ℕ). fields_text r.values ++ l) (closed r.rest (both_right r.found (starts feed r.rest) q))
+        ∙ ap (λ (l : List ℕ). fields_text r.values ++ l) (closed r.values r.rest (both_right r.found (starts feed r.rest) q))
         ∙ sym (append_assoc (fields_text r.values) (feed ∷ []) (drop 1 r.rest))
     kept r h false q f = absurd (false≢true f)
 
@@ -200,230 +198,104 @@ pub line-found : (b most : ℕ) (vs t : List ℕ) → most ≤ largest_number �
 unfolding line_of
 line-found b most vs t range w =
     let same : (fields_text vs ++ (feed ∷ [])) ++ t ≡ fields_text vs ++ (feed ∷ t) = append_assoc (fields_text vs) (feed ∷ []) t in
-    rw (eq-eqb b b refl, same, fields_found most vs (feed ∷ t) range w (λ v. stops v feed t refl))
+    rw (eq-eqb b b refl, same, fields_found most vs t range w)
 
 -- ---- rows
 
-pub rows-sound : (most h w : ℕ) (s : List ℕ) → (rows_of most h w s).found ≡ true → s ≡ rows_text h w (rows_of most h w s).values
+pub rows-sound : (h w : ℕ) (s : List ℕ) → (rows_of h w s).found ≡ true → s ≡ rows_text h w (rows_of h w s).values
 unfolding rows_of rows_text
-rows-sound most zero w [] e = refl
-rows-sound most zero w (c ∷ s) e = absurd (false≢true e)
-rows-sound most (suc h) w s e = go (rows-sound most h w (line_of 82 most w s).rest) (line_of 82 most w s).found refl e
+rows-sound zero w [] e = refl
+rows-sound zero w (c ∷ s) e = absurd (false≢true e)
+rows-sound (suc h) w s e = go (rows-sound h w (line_of 82 255 w s).rest) (line_of 82 255 w s).found refl e
   where
-    go : ((rows_of most h w (line_of 82 most w s).rest).found ≡ true → (line_of 82 most w s).rest ≡ rows_text h w (rows_of most h w (line_of 82 most w s).rest).values)
-        → (b : Bool) → (line_of 82 most w s).found ≡ b → (cond b (before (line_of 82 most w s).values (rows_of most h w (line_of 82 most w s).rest)) no_values).found ≡ true
-        → s ≡ rows_text (suc h) w (cond b (before (line_of 82 most w s).values (rows_of most h w (line_of 82 most w s).rest)) no_values).values
+    go : ((rows_of h w (line_of 82 255 w s).rest).found ≡ true → (line_of 82 255 w s).rest ≡ rows_text h w (rows_of h w (line_of 82 255 w s).rest).values)
+        → (b : Bool) → (line_of 82 255 w s).found ≡ b → (cond b (before (line_of 82 255 w s).values (rows_of h w (line_of 82 255 w s).rest)) no_values).found ≡ true
+        → s ≡ rows_text (suc h) w (cond b (before (line_of 82 255 w s).values (rows_of h w (line_of 82 255 w s).rest)) no_values).values
     go more true q f =
-        let row = (line_of 82 most w s).values in
-        let others = (rows_of most h w (line_of 82 most w s).rest).values in
-        let many = line-many 82 most w s q in
-        line-sound 82 most w s q ∙ ap (λ (l : List ℕ). line_text 82 row ++ l) (more f)
+        let row = (line_of 82 255 w s).values in
+        let others = (rows_of h w (line_of 82 255 w s).rest).values in
+        let many = line-many 82 255 w s q in
+        line-sound 82 255 w s q ∙ ap (λ (l : List ℕ). line_text 82 row ++ l) (more f)
         ∙ sym (ap₂ (λ (x y : List ℕ). line_text 82 x ++ rows_text h w y) (take_at row others w many) (drop_at row others w many))
     go more false q f = absurd (false≢true f)
 
-pub rows-found : (most h w : ℕ) (ps : List ℕ) → most ≤ largest_number → length ps ≡ h * w → Within most ps → rows_of most h w (rows_text h w ps) ≡ valued ps []
+pub rows-found : (h w : ℕ) (ps : List ℕ) → length ps ≡ h * w → Within 255 ps → rows_of h w (rows_text h w ps) ≡ valued ps []
 unfolding rows_of rows_text
-rows-found most zero w [] range e d = refl
-rows-found most zero w (p ∷ ps) range e d = absurd (omega (arith, e))
-rows-found most (suc h) w ps range e d =
+rows-found zero w [] e d = refl
+rows-found zero w (p ∷ ps) e d = absurd (omega (arith, e))
+rows-found (suc h) w ps e d =
     let size = e ∙ suc-mul h w in
     let many = length-take-le w ps (omega arith) in
-    let others = rows-found most h w (drop w ps) range (omega (arith, length-drop w ps)) (all_drop (λ (v : ℕ). v ≤ most) w ps d) in
-    let row : line_of 82 most w (line_text 82 (take w ps) ++ rows_text h w (drop w ps)) ≡ valued (take w ps) (rows_text h w (drop w ps)) =
-    ap (λ (n : ℕ). line_of 82 most n (line_text 82 (take w ps) ++ rows_text h w (drop w ps))) (sym many)
-    ∙ line-found 82 most (take w ps) (rows_text h w (drop w ps)) range (all_take (λ (v : ℕ). v ≤ most) w ps d) in
+    let others = rows-found h w (drop w ps) (omega (arith, length-drop w ps)) (all_drop (λ (v : ℕ). v ≤ 255) w ps d) in
+    let row : line_of 82 255 w (line_text 82 (take w ps) ++ rows_text h w (drop w ps)) ≡ valued (take w ps) (rows_text h w (drop w ps)) =
+    ap (λ (n : ℕ). line_of 82 255 n (line_text 82 (take w ps) ++ rows_text h w (drop w ps))) (sym many)
+    ∙ line-found 82 255 (take w ps) (rows_text h w (drop w ps)) (omega arith) (all_take (λ (v : ℕ). v ≤ 255) w ps d) in
     rw (row, others) (ap (λ (l : List ℕ). valued l []) (take-append-drop w ps))
-
--- ---- the `F` line
-
--- the end of the `F` line of pixels of b bits
-abbrev ending : ℕ → List ℕ
-ending b = fields_text (bits_fields b) ++ (feed ∷ [])
-
-sixteen-sound : (s : List ℕ) (g : Numeral) → (g.found ≡ true → s ≡ (tab ∷ decimal g.value) ++ g.rest) → (sixteen g).found ≡ true
-    → (s ≡ ending 16 ++ (sixteen g).rest) × ((sixteen g).value ≡ 16)
-unfolding fields_text digits
-sixteen-sound s g h f = go (g.found && (eqb g.value 16 && starts feed g.rest)) refl f
-  where
-    go : (b : Bool) → (g.found && (eqb g.value 16 && starts feed g.rest)) ≡ b → (cond b (numeral 16 (drop 1 g.rest)) no_numeral).found ≡ true
-        → (s ≡ ending 16 ++ (cond b (numeral 16 (drop 1 g.rest)) no_numeral).rest) × ((cond b (numeral 16 (drop 1 g.rest)) no_numeral).value ≡ 16)
-    go true q f =
-        let more = both_right g.found (eqb g.value 16 && starts feed g.rest) q in
-        let value = eqb-true g.value 16 (both_left (eqb g.value 16) (starts feed g.rest) more) in
-        let rest = closed g.rest (both_right (eqb g.value 16) (starts feed g.rest) more) in
-        (h (both_left g.found (eqb g.value 16 && starts feed g.rest) q) ∙ ap₂ (λ (v : ℕ) (t : List ℕ). (tab ∷ decimal v) ++ t) value rest, refl)
-    go false q f = absurd (false≢true f)
-
-pub bits-sound : (s : List ℕ) → (bits_of s).found ≡ true → (s ≡ ending (bits_of s).value ++ (bits_of s).rest) × (((bits_of s).value ≡ 8) ⊎ ((bits_of s).value ≡ 16))
-unfolding bits_of fields_text
-bits-sound s = go (starts feed s) refl
-  where
-    go : (b : Bool) → starts feed s ≡ b → (cond b (numeral 8 (drop 1 s)) (sixteen (field_of largest_number s))).found ≡ true
-        → (s ≡ ending (cond b (numeral 8 (drop 1 s)) (sixteen (field_of largest_number s))).value ++ (cond b (numeral 8 (drop 1 s)) (sixteen (field_of largest_number s))).rest)
-        × (((cond b (numeral 8 (drop 1 s)) (sixteen (field_of largest_number s))).value ≡ 8) ⊎ ((cond b (numeral 8 (drop 1 s)) (sixteen (field_of largest_number s))).value ≡ 16))
-    go true q f = (closed s q, inl refl)
-    go false q f =
-        let third = sixteen-sound s (field_of largest_number s) (field_sound largest_number s) f in
-        (third.0 ∙ ap (λ (b : ℕ). ending b ++ (sixteen (field_of largest_number s)).rest) (sym third.1), inr third.1)
-
-bits_none : (t : List ℕ) → bits_of (ending 8 ++ t) ≡ numeral 8 t
-unfolding bits_of fields_text
-bits_none t = refl
-
-bits-some : (t : List ℕ) → bits_of (ending 16 ++ t) ≡ numeral 16 t
-unfolding bits_of fields_text field_of number_of digits
-bits-some t = rw (field_found largest_number 16 (feed ∷ t) (omega arith) (le_refl largest_number) (λ v. stops v feed t refl))
-
-pub bits-found : (b : ℕ) (t : List ℕ) → (b ≡ 8) ⊎ (b ≡ 16) → bits_of (ending b ++ t) ≡ numeral b t
-bits-found b t which = ⊎_elim (λ e. rw e (bits_none t)) (λ e. rw e (bits-some t)) which
-
-ending-stops : (b : ℕ) (t : List ℕ) → (b ≡ 8) ⊎ (b ≡ 16) → Stops (ending b ++ t)
-unfolding fields_text digits
-ending-stops b t which =
-    ⊎_elim (λ e. rw e (λ v. stops v feed t refl))
-    (λ e. rw e (λ v. stops v tab (decimal 16 ++ (feed ∷ t)) refl))
-    which
-
--- the fields of a line in two parts
-fields_parted : (xs ys t : List ℕ) → (fields_text (xs ++ ys) ++ (feed ∷ [])) ++ t ≡ fields_text xs ++ ((fields_text ys ++ (feed ∷ [])) ++ t)
-unfolding fields_text
-fields_parted [] ys t = refl
-fields_parted (x ∷ xs) ys t =
-    let field = tab ∷ decimal x in
-    ap (λ (l : List ℕ). l ++ t) (append_assoc field (fields_text (xs ++ ys)) (feed ∷ []))
-    ∙ append_assoc field (fields_text (xs ++ ys) ++ (feed ∷ [])) t
-    ∙ ap (λ (l : List ℕ). field ++ l) (fields_parted xs ys t)
-    ∙ sym (append_assoc field (fields_text xs) ((fields_text ys ++ (feed ∷ [])) ++ t))
-
--- the text s starts with the `F` line of which m was read
-record Sized (s : List ℕ) (m : Values) : Type 0 where
-  pub numbers : List ℕ
-  pub bits : ℕ
-  pub two : length numbers ≡ 2
-  pub either : (bits ≡ 8) ⊎ (bits ≡ 16)
-  pub values : m.values ≡ numbers ++ (bits ∷ [])
-  pub is : s ≡ line_text 70 (numbers ++ bits_fields bits) ++ m.rest
-
-size-sound : (s : List ℕ) → (size_of s).found ≡ true → Sized s (size_of s)
-unfolding size_of
-size-sound [] e = absurd (false≢true e)
-size-sound (c ∷ s) e = go (eqb c 70) refl e
-  where
-    kept : (r : Values) → (r.found ≡ true → s ≡ fields_text r.values ++ r.rest) → (r.found ≡ true → length r.values ≡ 2) → c ≡ 70
-        → (a : Bool) → (r.found && (bits_of r.rest).found) ≡ a
-        → (cond a (valued (r.values ++ ((bits_of r.rest).value ∷ [])) (bits_of r.rest).rest) no_values).found ≡ true
-        → Sized (c ∷ s) (cond a (valued (r.values ++ ((bits_of r.rest).value ∷ [])) (bits_of r.rest).rest) no_values)
-    kept r h many letter true q f =
-        let there = both_left r.found (bits_of r.rest).found q in
-        let end = bits-sound r.rest (both_right r.found (bits_of r.rest).found q) in
-        let behind = h there ∙ ap (λ (l : List ℕ). fields_text r.values ++ l) end.0 ∙ sym (fields_parted r.values (bits_fields (bits_of r.rest).value) (bits_of r.rest).rest) in
-        record {
-          numbers = r.values;
-          bits = (bits_of r.rest).value;
-          two = many there;
-          either = end.1;
-          values = refl;
-          is = ap₂ (λ (d : ℕ) (l : List ℕ). d ∷ l) letter behind;
-        }
-    kept r h many letter false q f = absurd (false≢true f)
-
-    go : (a : Bool) → eqb c 70 ≡ a → (cond a (with_bits (fields_of largest_number 2 s)) no_values).found ≡ true → Sized (c ∷ s) (cond a (with_bits (fields_of largest_number 2 s)) no_values)
-    go true q f =
-        let r = fields_of largest_number 2 s in
-        kept r (fields_sound largest_number 2 s) (fields_many largest_number 2 s) (eqb-true c 70 q) (r.found && (bits_of r.rest).found) refl f
-    go false q f = absurd (false≢true f)
-
-size-found : (w h b : ℕ) (t : List ℕ) → w ≤ largest_number → h ≤ largest_number → (b ≡ 8) ⊎ (b ≡ 16)
-    → size_of (line_text 70 (w ∷ h ∷ bits_fields b) ++ t) ≡ valued (w ∷ h ∷ b ∷ []) t
-unfolding size_of All
-size-found w h b t wide high which =
-    let xs = w ∷ h ∷ [] in
-    let fields = fields_found largest_number xs (ending b ++ t) (le_refl largest_number) (wide, (high, tt)) (ending-stops b t which) in
-    rw (fields_parted xs (bits_fields b) t, fields, bits-found b t which)
 
 -- ---- the whole text
 
--- the numbers of the first two lines, as they stand in a list
-abbrev Numbered : List ℕ → List ℕ → List ℕ → Type 0
-Numbered s vs ps = s ≡ frame_text (get_or vs 0 0) (get_or vs 1 0) (get_or vs 2 0) (get_or vs 3 0) ps
-
-three_parts : (s t u ps xs ys : List ℕ) (b : ℕ) → length xs ≡ 1 → length ys ≡ 2 → s ≡ line_text 68 xs ++ t → t ≡ line_text 70 (ys ++ bits_fields b) ++ u
-    → u ≡ rows_text (get_or (xs ++ (ys ++ (b ∷ []))) 2 0) (get_or (xs ++ (ys ++ (b ∷ []))) 1 0) ps → Numbered s (xs ++ (ys ++ (b ∷ []))) ps
+three-parts : (s t u ps xs ys : List ℕ) → length xs ≡ 1 → length ys ≡ 2 → s ≡ line_text 68 xs ++ t → t ≡ line_text 70 ys ++ u
+    → u ≡ rows_text (get_or (xs ++ ys) 2 0) (get_or (xs ++ ys) 1 0) ps
+    → s ≡ frame_text (get_or (xs ++ ys) 0 0) (get_or (xs ++ ys) 1 0) (get_or (xs ++ ys) 2 0) ps
 unfolding frame_text
-three_parts s t u ps [] ys b m n p q r = absurd (omega arith)
-three_parts s t u ps (x ∷ (x' ∷ xs)) ys b m n p q r = absurd (omega arith)
-three_parts s t u ps (x ∷ []) [] b m n p q r = absurd (omega arith)
-three_parts s t u ps (x ∷ []) (y ∷ []) b m n p q r = absurd (omega arith)
-three_parts s t u ps (x ∷ []) (y ∷ (z ∷ [])) b m n p q r =
-    p ∙ ap (λ (l : List ℕ). line_text 68 (x ∷ []) ++ l) (q ∙ ap (λ (l : List ℕ). line_text 70 (y ∷ z ∷ bits_fields b) ++ l) r)
-three_parts s t u ps (x ∷ []) (y ∷ (z ∷ (y' ∷ ys))) b m n p q r = absurd (omega arith)
+three-parts s t u ps [] ys a b p q r = absurd (omega arith)
+three-parts s t u ps (x ∷ (x' ∷ xs)) ys a b p q r = absurd (omega arith)
+three-parts s t u ps (x ∷ []) [] a b p q r = absurd (omega arith)
+three-parts s t u ps (x ∷ []) (y ∷ []) a b p q r = absurd (omega arith)
+three-parts s t u ps (x ∷ []) (y ∷ (z ∷ [])) a b p q r =
+    p ∙ ap (λ (l : List ℕ). line_text 68 (x ∷ []) ++ l) (q ∙ ap (λ (l : List ℕ). line_text 70 (y ∷ z ∷ []) ++ l) r)
+three-parts s t u ps (x ∷ []) (y ∷ (z ∷ (y' ∷ ys))) a b p q r = absurd (omega arith)
 
-module _ (s : List ℕ) (f : (head_of s).found ≡ true) where
-  abbrev first : Values
-  first = line_of 68 largest_number 1 s
+pub frame-read : (s : List ℕ) → (head_of s).found ≡ true → (rows_in s).found ≡ true → s ≡ frame_text (direction_in s) (width_in s) (height_in s) (rows_in s).values
+unfolding head_of
+frame-read s = go (line_of 68 largest_number 1 s).found refl
+  where
+    go : (b : Bool) → (line_of 68 largest_number 1 s).found ≡ b
+        → (cond b (before (line_of 68 largest_number 1 s).values (line_of 70 largest_number 2 (line_of 68 largest_number 1 s).rest)) no_values).found ≡ true
+        → (rows_of (get_or (cond b (before (line_of 68 largest_number 1 s).values (line_of 70 largest_number 2 (line_of 68 largest_number 1 s).rest)) no_values).values 2 0)
+        (get_or (cond b (before (line_of 68 largest_number 1 s).values (line_of 70 largest_number 2 (line_of 68 largest_number 1 s).rest)) no_values).values 1 0)
+        (cond b (before (line_of 68 largest_number 1 s).values (line_of 70 largest_number 2 (line_of 68 largest_number 1 s).rest)) no_values).rest).found ≡ true
+        → s ≡ frame_text
+        (get_or (cond b (before (line_of 68 largest_number 1 s).values (line_of 70 largest_number 2 (line_of 68 largest_number 1 s).rest)) no_values).values 0 0)
+        (get_or (cond b (before (line_of 68 largest_number 1 s).values (line_of 70 largest_number 2 (line_of 68 largest_number 1 s).rest)) no_values).values 1 0)
+        (get_or (cond b (before (line_of 68 largest_number 1 s).values (line_of 70 largest_number 2 (line_of 68 largest_number 1 s).rest)) no_values).values 2 0)
+        (rows_of (get_or (cond b (before (line_of 68 largest_number 1 s).values (line_of 70 largest_number 2 (line_of 68 largest_number 1 s).rest)) no_values).values 2 0)
+        (get_or (cond b (before (line_of 68 largest_number 1 s).values (line_of 70 largest_number 2 (line_of 68 largest_number 1 s).rest)) no_values).values 1 0)
+        (cond b (before (line_of 68 largest_number 1 s).values (line_of 70 largest_number 2 (line_of 68 largest_number 1 s).rest)) no_values).rest).values
+    go true q f g =
+        let t = (line_of 68 largest_number 1 s).rest in
+        let second = line_of 70 largest_number 2 t in
+        three-parts s t second.rest _ (line_of 68 largest_number 1 s).values second.values
+        (line-many 68 largest_number 1 s q) (line-many 70 largest_number 2 t f) (line-sound 68 largest_number 1 s q) (line-sound 70 largest_number 2 t f) (rows-sound _ _ second.rest g)
+    go false q f g = absurd (false≢true f)
 
-  both_found : (first.found ≡ true) × (head_of s ≡ before first.values (size_of first.rest))
-  unfolding head_of
-  both_found = go first.found refl f
-    where
-      go : (b : Bool) → first.found ≡ b → (cond b (before first.values (size_of first.rest)) no_values).found ≡ true
-          → (first.found ≡ true) × (cond b (before first.values (size_of first.rest)) no_values ≡ before first.values (size_of first.rest))
-      go true q f = (q, refl)
-      go false q f = absurd (false≢true f)
-
-  sized : Sized first.rest (size_of first.rest)
-  sized = size-sound first.rest (sym (ap (λ (m : Values). m.found) both_found.1) ∙ f)
-
-  all-numbers : (head_of s).values ≡ first.values ++ (sized.numbers ++ (sized.bits ∷ []))
-  all-numbers = ap (λ (m : Values). m.values) both_found.1 ∙ ap (λ (l : List ℕ). first.values ++ l) sized.values
-
-  pub frame-read : (rows_in s).found ≡ true → s ≡ frame_text (direction_in s) (width_in s) (height_in s) (bits_in s) (rows_in s).values
-  frame-read g =
-      let rest : (size_of first.rest).rest ≡ (head_of s).rest = sym (ap (λ (m : Values). m.rest) both_found.1) in
-      let rows = rest ∙ rows-sound (brightest_of (bits_in s)) (height_in s) (width_in s) (head_of s).rest g in
-      let parts = three_parts s first.rest (size_of first.rest).rest (rows_in s).values first.values sized.numbers sized.bits
-      (line-many 68 largest_number 1 s both_found.0) sized.two (line-sound 68 largest_number 1 s both_found.0) sized.is in
-      subst (λ (l : List ℕ). Numbered s l (rows_in s).values) (sym all-numbers)
-      (parts (rows ∙ ap (λ (l : List ℕ). rows_text (get_or l 2 0) (get_or l 1 0) (rows_in s).values) all-numbers))
-
-  pub head_bits : (bits_in s ≡ 8) ⊎ (bits_in s ≡ 16)
-  head_bits =
-      let one : 3 ≡ length first.values + 2 = omega (arith, line-many 68 largest_number 1 s both_found.0) in
-      let two : 2 ≡ length sized.numbers + 0 = omega (arith, sized.two) in
-      let is : bits_in s ≡ sized.bits =
-      ap₂ (λ (l : List ℕ) (k : ℕ). get_or l k 0) all-numbers one
-      ∙ get_or-append-add first.values (sized.numbers ++ (sized.bits ∷ [])) 2 0
-      ∙ ap (λ (k : ℕ). get_or (sized.numbers ++ (sized.bits ∷ [])) k 0) two
-      ∙ get_or-append-add sized.numbers (sized.bits ∷ []) 0 0 in
-      rw is sized.either
-
-module _ (d w h b : ℕ) (ps : List ℕ) (numbered : d ≤ largest_number) (wide : w ≤ largest_number) (high : h ≤ largest_number) (which : (b ≡ 8) ⊎ (b ≡ 16)) where
-  pub head_found : head_of (frame_text d w h b ps) ≡ valued (d ∷ w ∷ h ∷ b ∷ []) (rows_text h w ps)
+module _ (d w h : ℕ) (ps : List ℕ) (numbered : d ≤ largest_number) (wide : w ≤ largest_number) (high : h ≤ largest_number) where
+  pub head_found : head_of (frame_text d w h ps) ≡ valued (d ∷ w ∷ h ∷ []) (rows_text h w ps)
   unfolding head_of frame_text All
   head_found =
-      let second = size-found w h b (rows_text h w ps) wide high which in
-      let first = line-found 68 largest_number (d ∷ []) (line_text 70 (w ∷ h ∷ bits_fields b) ++ rows_text h w ps) (le_refl largest_number) (numbered, tt) in
+      let second = line-found 70 largest_number (w ∷ h ∷ []) (rows_text h w ps) (le_refl largest_number) (wide, (high, tt)) in
+      let first = line-found 68 largest_number (d ∷ []) (line_text 70 (w ∷ h ∷ []) ++ rows_text h w ps) (le_refl largest_number) (numbered, tt) in
       rw (first, second)
 
-  pub frame-written : length ps ≡ h * w → Within (brightest_of b) ps → rows_in (frame_text d w h b ps) ≡ valued ps []
-  frame-written many dim = rw head_found (rows-found (brightest_of b) h w ps (brightest_bound b) many dim)
+  pub frame-written : length ps ≡ h * w → Within 255 ps → rows_in (frame_text d w h ps) ≡ valued ps []
+  frame-written many dim = rw head_found (rows-found h w ps many dim)
 
 -- ---- what is accepted
 
 -- an input that no rule refuses is the text of the frame that is read
-pub accepted-text : (s : List ℕ) (room : ℕ) → (answer (input_rules s room) 0).number ≡ 0 → s ≡ frame_text (direction_in s) (width_in s) (height_in s) (bits_in s) (rows_in s).values
+pub accepted-text : (s : List ℕ) (room : ℕ) → (answer (input_rules s room) 0).number ≡ 0 → s ≡ frame_text (direction_in s) (width_in s) (height_in s) (rows_in s).values
 accepted-text s room z =
     let k = kept (input_rules s room) 0 refl z in
     frame-read s (not-false (head_of s).found k.1.0) (not-false (rows_in s).found k.1.1.1.1.1.0)
 
 -- the text of a frame whose numbers are in their ranges is refused by no rule
-pub text-accepted : (d w h b : ℕ) (ps : List ℕ) (room : ℕ) → d ≤ 15 → outside 1 longest w ≡ false → outside 1 longest h ≡ false → (b ≡ 8) ⊎ (b ≡ 16) → length ps ≡ h * w
-    → Within (brightest_of b) ps → length (frame_text d w h b ps) ≤ longest_input → w * h ≤ room → answer (input_rules (frame_text d w h b ps) room) 0 ≡ done 0
-text-accepted d w h b ps room numbered wide high which many dim size fit =
+pub text-accepted : (d w h : ℕ) (ps : List ℕ) (room : ℕ) → d ≤ 15 → outside 1 longest w ≡ false → outside 1 longest h ≡ false → length ps ≡ h * w → Within 255 ps
+    → length (frame_text d w h ps) ≤ longest_input → w * h ≤ room → answer (input_rules (frame_text d w h ps) room) 0 ≡ done 0
+text-accepted d w h ps room numbered wide high many dim size fit =
     let width = outside_not 1 longest w wide in
     let height = outside_not 1 longest h high in
-    let head = head_found d w h b ps (omega arith) (omega (arith, width.1)) (omega (arith, height.1)) which in
-    let rows = frame-written d w h b ps (omega arith) (omega (arith, width.1)) (omega (arith, height.1)) which many dim in
+    let head = head_found d w h ps (omega arith) (omega (arith, width.1)) (omega (arith, height.1)) in
+    let rows = frame-written d w h ps (omega arith) (omega (arith, width.1)) (omega (arith, height.1)) many dim in
     let values = ap (λ (r : Values). r.values) head in
     let direction-is = ap (λ (l : List ℕ). get_or l 0 0) values in
     let width_is = ap (λ (l : List ℕ). get_or l 1 0) values in
@@ -440,17 +312,9 @@ text-accepted d w h b ps room numbered wide high which many dim size fit =
     )
 
 -- 'For the input' D 0, F 5 1, R 3 5 5 2 4
-pub input_example : frame_text 0 5 1 8 (3 ∷ 5 ∷ 5 ∷ 2 ∷ 4 ∷ []) ≡
+pub input_example : frame_text 0 5 1 (3 ∷ 5 ∷ 5 ∷ 2 ∷ 4 ∷ []) ≡
     68 ∷ 9 ∷ 48 ∷ 10
     ∷ 70 ∷ 9 ∷ 53 ∷ 9 ∷ 49 ∷ 10
     ∷ 82 ∷ 9 ∷ 51 ∷ 9 ∷ 53 ∷ 9 ∷ 53 ∷ 9 ∷ 50 ∷ 9 ∷ 52 ∷ 10 ∷ []
 unfolding frame_text rows_text fields_text digits
 input_example = refl
-
--- D 0, F 5 1 16, R 256 65535 65535 100 300
-pub input_example16 : frame_text 0 5 1 16 (256 ∷ 65535 ∷ 65535 ∷ 100 ∷ 300 ∷ []) ≡
-    68 ∷ 9 ∷ 48 ∷ 10
-    ∷ 70 ∷ 9 ∷ 53 ∷ 9 ∷ 49 ∷ 9 ∷ 49 ∷ 54 ∷ 10
-    ∷ 82 ∷ 9 ∷ 50 ∷ 53 ∷ 54 ∷ 9 ∷ 54 ∷ 53 ∷ 53 ∷ 51 ∷ 53 ∷ 9 ∷ 54 ∷ 53 ∷ 53 ∷ 51 ∷ 53 ∷ 9 ∷ 49 ∷ 48 ∷ 48 ∷ 9 ∷ 51 ∷ 48 ∷ 48 ∷ 10 ∷ []
-unfolding frame_text rows_text fields_text digits
-input_example16 = refl

@@ -22,7 +22,7 @@ use Rattle.bright.specs.declared.Bookmark.{Bookmark}
 use Rattle.bright.specs.declared.Step.{Step}
 use Rattle.bright.specs.declared.Stretch.{Stretch}
 use Rattle.bright.specs.Stretches.{stretches, no_stretch}
-use Rattle.bright.specs.Generator.{run16, beginning, coming, Follows}
+use Rattle.bright.specs.Generator.{run8, beginning, coming, Follows}
 use Rattle.bright.specs.Nesting.{encloser_of, nested, records, enclosers_of, NestsLine}
 use Rattle.bright.proofs.Counting.{stretches-few}
 use Rattle.bright.proofs.Records.{records-length, records-at, enclosers_length, enclosers_at}
@@ -37,13 +37,13 @@ lines_from f i = stretches_text (drop i (records (stretches f)))
 -- i stretches are found, and the others come from the bookmark p with the scratch m; the enclosers' places stand at the front of es
 pub record Printing (f es m : List ℕ) (p : Bookmark) (i : ℕ) : Type 0 where
   pub pixels : length f ≤ longest
-  pub others : coming run16 f m p ≡ drop i (stretches f)
+  pub others : coming run8 f m p ≡ drop i (stretches f)
   pub places : take (length (stretches f)) es ≡ enclosers_of (stretches f)
 
 pub printing_start : (f es m : List ℕ) → length f ≤ longest → 4 * length f ≤ length m → take (length (stretches f)) es ≡ enclosers_of (stretches f) → Printing f es m beginning 0
-printing_start f es m pixels room places = record { pixels = pixels; others = coming-beginning run16 f m pixels room; places = places }
+printing_start f es m pixels room places = record { pixels = pixels; others = coming-beginning run8 f m pixels room; places = places }
 
-module _ {f es m : List ℕ} {p : Bookmark} {i : ℕ} (g : Printing f es m p i) {m' : List ℕ} {r : Step} (h : Follows run16 f m p m' r) where
+module _ {f es m : List ℕ} {p : Bookmark} {i : ℕ} (g : Printing f es m p i) {m' : List ℕ} {r : Step} (h : Follows run8 f m p m' r) where
   abbrev ss : List Stretch
   ss = stretches f
 
@@ -69,7 +69,7 @@ module _ {f es m : List ℕ} {p : Bookmark} {i : ℕ} (g : Printing f es m p i) 
     pub printing_few : i < longest
     printing_few = omega (arith, inside, stretches-few f, g.pixels)
 
-    pub printing_less : length (coming run16 f m' r.bookmark) < length (coming run16 f m p)
+    pub printing_less : length (coming run8 f m' r.bookmark) < length (coming run8 f m p)
     printing_less = omega (arith, ap length (coming-next h y))
 
     pub printing_first : lines_from f i ≡ line_text 90 (stretch_fields (nested r.stretch (get_or es i 0))) ++ lines_from f (i + 1)

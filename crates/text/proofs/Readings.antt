@@ -5,8 +5,6 @@
 --   number-first, number-none, number-missing    the number at a place
 --   field_some, field_tab, field_number, field_most    the field at a place
 --   field_bound                          a field is in its range
---   sixteen-broken, sixteen-other, sixteen_open, sixteen-read, bits_eight, bits_third    the bits at a place
---   bits_bound                           they are 16 at most; brightest_bound: the greatest level is a number of the input
 --   starts-here, starts-past, starts-inside    the byte at a place
 --   reads_at, reads_none, reads_same     what reading a number hands back
 -- Assumes nothing.
@@ -21,13 +19,11 @@ use native.Mathlib.Omega.{arith}
 use lib.Dec.{ltb, leb, eqb}
 use lib.ListN.{length, get_or, drop}
 use lib.Seq.{drop-cons, drop-nil, drop-drop}
-use borrow.Author.Tests.{ltb-true, leb-true, le-leb, lt-leb, eq-eqb, ne_eqb}
+use borrow.Author.Tests.{ltb-true, leb-true, le-leb, lt-leb}
 use Rattle.lists.proofs.Cases.{less_or_not, both_left, both_right}
-use Rattle.answer.specs.Limits.{brightest8, brightest16}
 use Rattle.text.specs.declared.reading.Number.{Number}
-use Rattle.text.specs.Lines.{tab, feed}
+use Rattle.text.specs.Lines.{tab}
 use Rattle.text.specs.Reading.{largest_number, is_digit, goes_on, Numeral, numeral, no_numeral, number_on, number_of, starts, at_most, field_of}
-use Rattle.text.specs.Inputs.{sixteen, bits_of, brightest_of}
 use Rattle.text.specs.Steps.{no_number, Reads}
 
 pub drop_past : (s : List ℕ) (n : ℕ) → length s ≤ n → drop n s ≡ []
@@ -156,47 +152,3 @@ tab-kept most g false e = absurd (false≢true e)
 pub field_bound : (most : ℕ) (s : List ℕ) → (field_of most s).found ≡ true → (field_of most s).value ≤ most
 unfolding field_of
 field_bound most s e = tab-kept most (number_of (drop 1 s)) (starts tab s) e
-
--- ---- the bits of a pixel
-
-module _ (s : List ℕ) (at low : ℕ) (r : Number) (field : Reads (field_of largest_number (drop at s)) s low r) where
-  pub sixteen-broken : r.found ≡ false → (sixteen (field_of largest_number (drop at s))).found ≡ false
-  sixteen-broken f = simp (sym field.found ∙ f)
-
-  pub sixteen-other : r.found ≡ true → (r.value ≡ 16 → ⊥) → (sixteen (field_of largest_number (drop at s))).found ≡ false
-  sixteen-other f ne = simp (sym field.found ∙ f, sym (field.value f), ne_eqb r.value 16 ne)
-
-  pub sixteen_open : r.found ≡ true → r.value ≡ 16 → starts feed (drop r.next s) ≡ false → (sixteen (field_of largest_number (drop at s))).found ≡ false
-  sixteen_open f e o = simp (sym field.found ∙ f, sym (field.value f), eq-eqb r.value 16 e, sym (field.rest f), o)
-
-  pub sixteen-read : r.found ≡ true → r.value ≡ 16 → starts feed (drop r.next s) ≡ true → sixteen (field_of largest_number (drop at s)) ≡ numeral 16 (drop (r.next + 1) s)
-  sixteen-read f e o = simp (sym field.found ∙ f, sym (field.value f), eq-eqb r.value 16 e, sym (field.rest f), o, behind-one s r.next)
-
-pub bits_eight : (s : List ℕ) (at : ℕ) → starts feed (drop at s) ≡ true → bits_of (drop at s) ≡ numeral 8 (drop (at + 1) s)
-unfolding bits_of
-bits_eight s at e = simp (e, behind-one s at)
-
-pub bits_third : (s : List ℕ) (at : ℕ) → starts feed (drop at s) ≡ false → bits_of (drop at s) ≡ sixteen (field_of largest_number (drop at s))
-unfolding bits_of
-bits_third s at e = simp e
-
-sixteen-kept : (g : Numeral) (b : Bool) → (cond b (numeral 16 (drop 1 g.rest)) no_numeral).value ≤ 16
-sixteen-kept g true = omega arith
-sixteen-kept g false = omega arith
-
-bits-kept : (s : List ℕ) (g : Numeral) (b : Bool) → g.value ≤ 16 → (cond b (numeral 8 s) g).value ≤ 16
-bits-kept s g true h = omega arith
-bits-kept s g false h = h
-
-pub bits_bound : (s : List ℕ) → (bits_of s).value ≤ 16
-unfolding bits_of
-bits_bound s =
-    let g = field_of largest_number s in
-    bits-kept (drop 1 s) (sixteen g) (starts feed s) (sixteen-kept g (g.found && (eqb g.value 16 && starts feed g.rest)))
-
-pub brightest_bound : (b : ℕ) → brightest_of b ≤ largest_number
-brightest_bound b = go (eqb b 16)
-  where
-    go : (t : Bool) → cond t brightest16 brightest8 ≤ largest_number
-    go true = omega arith
-    go false = omega arith

@@ -9,7 +9,7 @@
 --   refusal_is, refusal-length   the text of a refusal; how long it is
 --   puts_as                      the same text by another name
 --   prints_done, prints_none     a text put at the front, or none
---   line_example                 document 01's example of the program stretches, with the fifth numbers; line_example16: one of levels above 255
+--   line_example                 document 01's example of the program stretches, with the fifth numbers
 -- Assumes nothing.
 use mathlib.Core.Path.{◌≡◌, refl, ap, ◌∙◌}
 use mathlib.Core.Bool.{Bool, true, false, cond}
@@ -156,13 +156,3 @@ pub line_example : line_report (pos 0) (3 ∷ 5 ∷ 5 ∷ 2 ∷ 4 ∷ []) ≡
     ∷ 90 ∷ 9 ∷ 48 ∷ 9 ∷ 53 ∷ 9 ∷ 50 ∷ 9 ∷ 48 ∷ 9 ∷ 51 ∷ 10 ∷ []
 unfolding line_report title_text stretches_text fields_text digits nesting.records nesting.shortest bright.stretches bright.ending_at bright.is_stretch bright.stretch_of bright.level_of extremes.least extremes.greatest tables.each
 line_example = refl
-
--- L 0 5, Z 1 3 65535 256 1, Z 0 3 256 100 3, Z 4 5 300 100 3, Z 0 5 100 0 3
-pub line_example16 : line_report (pos 0) (256 ∷ 65535 ∷ 65535 ∷ 100 ∷ 300 ∷ []) ≡
-    76 ∷ 9 ∷ 48 ∷ 9 ∷ 53 ∷ 10
-    ∷ 90 ∷ 9 ∷ 49 ∷ 9 ∷ 51 ∷ 9 ∷ 54 ∷ 53 ∷ 53 ∷ 51 ∷ 53 ∷ 9 ∷ 50 ∷ 53 ∷ 54 ∷ 9 ∷ 49 ∷ 10
-    ∷ 90 ∷ 9 ∷ 48 ∷ 9 ∷ 51 ∷ 9 ∷ 50 ∷ 53 ∷ 54 ∷ 9 ∷ 49 ∷ 48 ∷ 48 ∷ 9 ∷ 51 ∷ 10
-    ∷ 90 ∷ 9 ∷ 52 ∷ 9 ∷ 53 ∷ 9 ∷ 51 ∷ 48 ∷ 48 ∷ 9 ∷ 49 ∷ 48 ∷ 48 ∷ 9 ∷ 51 ∷ 10
-    ∷ 90 ∷ 9 ∷ 48 ∷ 9 ∷ 53 ∷ 9 ∷ 49 ∷ 48 ∷ 48 ∷ 9 ∷ 48 ∷ 9 ∷ 51 ∷ 10 ∷ []
-unfolding line_report title_text stretches_text fields_text digits nesting.records nesting.shortest bright.stretches bright.ending_at bright.is_stretch bright.stretch_of bright.level_of extremes.least extremes.greatest tables.each
-line_example16 = refl

@@ -3,7 +3,7 @@
 --   sums-put         its parts put one behind the other
 --   sums-fits        the sums and the room, once `sums_text` is not refused
 --   put_front        a text put at the front of a destination
---   sums_example     document 01's example of the program sums; sums_example16: one of levels above 255
+--   sums_example     document 01's example of the program sums
 -- Assumes nothing.
 use mathlib.Core.Path.{◌≡◌, refl, ap, ◌∙◌}
 use mathlib.Core.List.{List, [], ◌∷◌, ◌++◌}
@@ -51,13 +51,3 @@ pub sums_example : sums_text 0 (2 ∷ 4 ∷ 3 ∷ 10 ∷ []) ≡
     ∷ 84 ∷ 9 ∷ 49 ∷ 48 ∷ 10 ∷ []
 unfolding sums_text fields_text digits tables.each
 sums_example = refl
-
--- G 0 3, B 1 200, B 2 130558, B 3 468, T 500
-pub sums_example16 : sums_text 0 (200 ∷ 130558 ∷ 468 ∷ 500 ∷ []) ≡
-    71 ∷ 9 ∷ 48 ∷ 9 ∷ 51 ∷ 10
-    ∷ 66 ∷ 9 ∷ 49 ∷ 9 ∷ 50 ∷ 48 ∷ 48 ∷ 10
-    ∷ 66 ∷ 9 ∷ 50 ∷ 9 ∷ 49 ∷ 51 ∷ 48 ∷ 53 ∷ 53 ∷ 56 ∷ 10
-    ∷ 66 ∷ 9 ∷ 51 ∷ 9 ∷ 52 ∷ 54 ∷ 56 ∷ 10
-    ∷ 84 ∷ 9 ∷ 53 ∷ 48 ∷ 48 ∷ 10 ∷ []
-unfolding sums_text fields_text digits tables.each
-sums_example16 = refl

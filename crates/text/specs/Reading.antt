@@ -10,7 +10,7 @@
 --   field_of most s         a tab, and a number of at most `most`
 --   fields_of most n s      n fields
 --   line_of b most n s      a line: the letter b, n fields and the line feed
---   rows_of most h w s      h lines of w pixels, each of at most `most`, and nothing after them
+--   rows_of h w s           h lines of w pixels, and nothing after them
 --   before vs r            the numbers vs before those of r
 --   at_most, ended          a number that is in its range; numbers that a line feed follows
 -- Laws: text/proofs/Readings, Goings (place by place), Inputs (what is found is there as text, and what is there as text is found).
@@ -85,8 +85,8 @@ ended r = cond (r.found && starts feed r.rest) (valued r.values (drop 1 r.rest))
 unfoldable pub line_of : ℕ → ℕ → ℕ → List ℕ → Values
 line_of b most n s = cond (starts b s) (ended (fields_of most n (drop 1 s))) no_values
 
--- 'one `R` line a row with its pixels; nothing after'
-unfoldable pub rows_of : ℕ → ℕ → ℕ → List ℕ → Values
-rows_of most zero w [] = valued [] []
-rows_of most zero w (c ∷ s) = no_values
-rows_of most (suc h) w s = cond (line_of 82 most w s).found (before (line_of 82 most w s).values (rows_of most h w (line_of 82 most w s).rest)) no_values
+-- 'one `R` line a row with its pixels; nothing after'; 'pixels to 255'
+unfoldable pub rows_of : ℕ → ℕ → List ℕ → Values
+rows_of zero w [] = valued [] []
+rows_of zero w (c ∷ s) = no_values
+rows_of (suc h) w s = cond (line_of 82 255 w s).found (before (line_of 82 255 w s).values (rows_of h w (line_of 82 255 w s).rest)) no_values

@@ -4,10 +4,10 @@
 --   Room s at from vs          the text s is read up to `at`, which gave `from` values of two bytes at least; vs has an entry for every two bytes of s, so the others have room
 --   Stores m s at from vs vs' r    the values m, read from s at `at`, stand in vs' from entry `from` on, and r is the place behind them
 --   number_rules d w h         the rules for a direction number, a width and a height
---   Headed s at w h vs         the first two lines of s are read, up to `at`, and break no rule; the bits stand in vs, and the rows have room there
---   TestsRows s room at vs vs' a    a is the answer of the rules; where it is done, the pixels stand in vs' from entry 4 on
---   Tests s room vs vs' a      a is the answer of the rules; where it is done, direction, width, height, bits and pixels stand at the front of vs'
-use Rattle.std.specs.Prelude.{◌≡◌, true, false, List, [], ◌∷◌, ◌++◌, ℕ, ◌+◌, ◌*◌, ◌≤◌, ltb, length, get_or, drop}
+--   Headed s at w h vs         the first two lines of s are read, up to `at`, and break no rule; the rows have room in vs
+--   TestsRows s room at vs vs' a    a is the answer of the rules; where it is done, the pixels stand in vs' from entry 3 on
+--   Tests s room vs vs' a      a is the answer of the rules; where it is done, direction, width, height and pixels stand at the front of vs'
+use Rattle.std.specs.Prelude.{◌≡◌, true, false, List, [], ◌∷◌, ◌++◌, ℕ, ◌+◌, ◌*◌, ◌≤◌, ltb, length, drop}
 use Rattle.std.proofs.lemmas.List.Edits.{sets}
 use Rattle.answer.specs.declared.Answer.{Answer}
 use Rattle.answer.specs.Limits.{longest}
@@ -15,7 +15,7 @@ use Rattle.answer.specs.Rules.{Rule, rule, answer, outside}
 use Rattle.text.specs.declared.reading.Number.{Number}
 use Rattle.text.specs.declared.reading.Mark.{Mark}
 use Rattle.text.specs.Reading.{Numeral, Values}
-use Rattle.text.specs.Inputs.{longest_input, head_of, direction_in, width_in, height_in, bits_in, rows_in, input_rules}
+use Rattle.text.specs.Inputs.{longest_input, head_of, direction_in, width_in, height_in, rows_in, input_rules}
 
 abbrev pub no_number : Number
 no_number = record { found = false; value = 0; next = 0 }
@@ -53,13 +53,12 @@ pub record Headed (s : List ℕ) (at w h : ℕ) (vs : List ℕ) : Type 0 where
   pub wide : outside 1 longest (width_in s) ≡ false
   pub high : outside 1 longest (height_in s) ≡ false
   pub numbered : direction_in s ≤ 15
-  pub bits : get_or vs 3 0 ≡ bits_in s
   pub rest : drop at s ≡ (head_of s).rest
-  pub room : Room s at 4 vs
+  pub room : Room s at 3 vs
 
 pub record TestsRows (s : List ℕ) (room at : ℕ) (vs vs' : List ℕ) (a : Answer) : Type 0 where
   pub answers : a ≡ answer (input_rules s room) 0
-  pub stored : a.number ≡ 0 → vs' ≡ sets vs 4 (rows_in s).values
+  pub stored : a.number ≡ 0 → vs' ≡ sets vs 3 (rows_in s).values
   pub fits : a.number ≡ 0 → at + 2 * length (rows_in s).values ≤ length s
 
 pub record Tests (s : List ℕ) (room : ℕ) (vs vs' : List ℕ) (a : Answer) : Type 0 where

@@ -1,25 +1,24 @@
 // The programs' input.
-ghost use Rattle.std.specs.Prelude.{◌≡◌, ◌+◌, ◌*◌, ◌≤◌, ◌<◌, length, take, drop};
+ghost use Rattle.std.specs.Prelude.{◌≡◌, ℕ, ◌+◌, ◌*◌, ◌≤◌, ◌<◌, length, get_or, take, drop};
 ghost use Rattle.lists.specs.Stores.{front};
 ghost use Rattle.answer.specs.Rules.{answer};
-ghost use Rattle.text.specs.Inputs.{longest_input, brightest_of, ReadsInput};
+ghost use Rattle.text.specs.Inputs.{longest_input, ReadsInput};
 ghost use Rattle.text.specs.Steps.{number_rules, Headed, TestsRows, Tests};
 
 use crate::Pixel;
 use crate::reading::{read_head, read_rows};
-use answer::{Answer, BRIGHTEST8, BRIGHTEST16, LONGEST, is_outside};
+use answer::{Answer, LONGEST, is_outside};
 
 // The most bytes of an input.
 pub const LONGEST_INPUT: usize = 65536;
 
-// A frame that was read: the answer; and the direction number, the width, the height and the bits of a pixel, 8 or 16, which are 0 on refusal.
+// A frame that was read: the answer; and the direction number, the width and the height, which are 0 on refusal.
 #[derive(Drop)]
 pub struct Input {
     pub answer: Answer,
     pub direction: usize,
     pub width: usize,
     pub height: usize,
-    pub bits: usize,
 }
 
 fn wide(x: u16) -> usize
@@ -28,17 +27,7 @@ fn wide(x: u16) -> usize
     x as usize
 }
 
-// The greatest level of a pixel of so many bits.
-fn brightest_of(bits: usize) -> usize
-    ensures { result ≡ brightest_of bits }
-{
-    if bits == 16 {
-        return BRIGHTEST16;
-    }
-    BRIGHTEST8
-}
-
-// The rules for direction, width and height.
+// The rules for the three numbers of a text's first two lines.
 fn tested_numbers(direction: usize, width: usize, height: usize) -> Answer
     ensures { result ≡ answer (number_rules direction width height) 0 }
 {
@@ -48,7 +37,7 @@ fn tested_numbers(direction: usize, width: usize, height: usize) -> Answer
         .unless(2, 15 < direction)
 }
 
-// The last two rules for a text whose first two lines, up to `at`, break none. The bits stand in `values`, and the pixels go there from entry 4 on.
+// The last two rules for a text whose first two lines, up to `at`, break none. The pixels go to `values` from entry 3 on.
 fn tested_rows(
     text: &[u8],
     at: usize,
@@ -60,14 +49,13 @@ fn tested_rows(
     requires { Headed text.now at width height values.old }
     ensures { TestsRows text.now room at values.old values.new result }
 {
-    let most = brightest_of(wide(values[3]));
-    let rows = read_rows(text, at, most, width, height, values);
+    let rows = read_rows(text, at, width, height, values);
     Answer::done(0)
         .unless(9, !rows.found)
         .needing(6, room, width * height)
 }
 
-// The rules for a text, with room for so many pixels. Direction, width, height, bits and pixels go to the front of `values`.
+// The rules for a text, with `room` bytes for the pixels. Direction, width, height and pixels go to the front of `values`.
 fn tested(text: &[u8], values: &mut [u16], room: usize) -> Answer
     requires { longest_input ≤ 2 * length values.old }
     ensures { Tests text.now room values.old values.new result }
@@ -88,14 +76,14 @@ fn tested(text: &[u8], values: &mut [u16], room: usize) -> Answer
     tested_rows(text, head.next, width, height, values, room)
 }
 
-// Copies the n values from entry 4 on to the front of dst.
+// Copies the n values from entry 3 on, each of which fits a byte, to the front of dst.
 fn copy_pixels(values: &[u16], n: usize, dst: &mut [Pixel])
-    requires { (4 + n ≤ length values.now) × (n ≤ length dst.old) }
-    ensures { dst.new ≡ front (take n (drop 4 values.now)) dst.old }
+    requires { (3 + n ≤ length values.now) × (n ≤ length dst.old) × ((k : ℕ) → k < n → get_or values.now (3 + k) 0 ≤ 255) }
+    ensures { dst.new ≡ front (take n (drop 3 values.now)) dst.old }
 {
     let mut i: usize = 0;
     while i < n {
-        dst[i] = values[4 + i];
+        dst[i] = values[3 + i] as Pixel;
         i += 1;
     }
 }
@@ -112,19 +100,16 @@ pub fn read_input(text: &[u8], pixels: &mut [Pixel]) -> Input
             direction: 0,
             width: 0,
             height: 0,
-            bits: 0,
         };
     }
     let direction = wide(values[0]);
     let width = wide(values[1]);
     let height = wide(values[2]);
-    let bits = wide(values[3]);
     copy_pixels(&values, width * height, pixels);
     Input {
         answer,
         direction,
         width,
         height,
-        bits,
     }
 }

@@ -10,5 +10,4 @@ pub use input::{Input, LONGEST_INPUT, read_input};
 pub use stretches::{line_text, refusal_text};
 pub use sums::sums_text;
 
-// The programs run on the 16-bit calls alone: a line of 8-bit levels is a line of 16-bit levels.
-pub type Pixel = u16;
+pub type Pixel = u8;

@@ -1,8 +1,7 @@
-// Reading numbers, lines and rows from a text. A value takes two bytes of text at least, the bits of a pixel those of the letter `F` and of its line's end, so a buffer of
-// half as many entries as the text has bytes holds them all.
+// Reading numbers, lines and rows from a text. A value takes two bytes of text at least, so a buffer of half as many entries as the text has bytes holds them all.
 ghost use Rattle.std.specs.Prelude.{◌≡◌, ◌+◌, ◌*◌, ◌≤◌, ◌<◌, length, drop};
 ghost use Rattle.text.specs.Reading.{largest_number, is_digit, goes_on, number_on, number_of, starts, field_of, fields_of, line_of, rows_of};
-ghost use Rattle.text.specs.Inputs.{sixteen, bits_of, size_of, head_of};
+ghost use Rattle.text.specs.Inputs.{head_of};
 ghost use Rattle.text.specs.Steps.{no_number, no_mark, Reads, Room, Stores};
 
 // The largest number of an input.
@@ -194,66 +193,7 @@ fn read_line(
     }
 }
 
-// The third field 16 at `at`, and the end of its line.
-fn read_sixteen(text: &[u8], at: usize) -> Number
-    ensures { Reads (sixteen (field_of largest_number (drop at text.now))) text.now (at + 1) result }
-{
-    let field = read_field(text, at, LARGEST_NUMBER);
-    if !field.found {
-        return no_number();
-    }
-    if field.value != 16 {
-        return no_number();
-    }
-    let behind = field.next;
-    if !is_at(text, behind, b'\n') {
-        return no_number();
-    }
-    Number {
-        found: true,
-        value: 16,
-        next: behind + 1,
-    }
-}
-
-// The bits of a pixel, from what follows width and height: 8 where the line ends there, 16 where it ends behind a third field 16.
-fn read_bits(text: &[u8], at: usize) -> Number
-    ensures { Reads (bits_of (drop at text.now)) text.now (at + 1) result }
-{
-    if is_at(text, at, b'\n') {
-        return Number {
-            found: true,
-            value: 8,
-            next: at + 1,
-        };
-    }
-    read_sixteen(text, at)
-}
-
-// The `F` line at `at`: width, height and bits, stored behind the direction number.
-fn read_size(text: &[u8], at: usize, values: &mut [u16]) -> Mark
-    requires { Room text.now at 1 values.old }
-    ensures { Stores (size_of (drop at text.now)) text.now at 1 values.old values.new result }
-{
-    if !is_at(text, at, b'F') {
-        return no_mark();
-    }
-    let fields = read_fields(text, at + 1, LARGEST_NUMBER, values, 1, 2);
-    if !fields.found {
-        return no_mark();
-    }
-    let bits = read_bits(text, fields.next);
-    if !bits.found {
-        return no_mark();
-    }
-    values[3] = bits.value as u16;
-    Mark {
-        found: true,
-        next: bits.next,
-    }
-}
-
-// The first two lines of the text: direction number, width, height and bits, stored at the front of `values`.
+// The first two lines of the text: direction number, width and height, stored at the front of `values`.
 pub(crate) fn read_head(text: &[u8], values: &mut [u16]) -> Mark
     requires { length text.now ≤ 2 * length values.old }
     ensures { Stores (head_of text.now) text.now 0 0 values.old values.new result }
@@ -262,26 +202,25 @@ pub(crate) fn read_head(text: &[u8], values: &mut [u16]) -> Mark
     if !first.found {
         return no_mark();
     }
-    read_size(text, first.next, values)
+    read_line(text, first.next, b'F', LARGEST_NUMBER, values, 1, 2)
 }
 
-// The rows from `at` to the text's end, their pixels of at most `most` stored behind direction, width, height and bits.
+// The rows from `at` to the text's end, their pixels stored behind direction, width and height.
 pub(crate) fn read_rows(
     text: &[u8],
     at: usize,
-    most: usize,
     width: usize,
     height: usize,
     values: &mut [u16],
 ) -> Mark
-    requires { Room text.now at 4 values.old × (most ≤ largest_number) }
-    ensures { Stores (rows_of most height width (drop at text.now)) text.now at 4 values.old values.new result }
+    requires { Room text.now at 3 values.old }
+    ensures { Stores (rows_of height width (drop at text.now)) text.now at 3 values.old values.new result }
 {
     let mut next = at;
     let mut count: usize = 0;
     let mut row: usize = 0;
     while row < height {
-        let line = read_line(text, next, b'R', most, values, 4 + count, width);
+        let line = read_line(text, next, b'R', 255, values, 3 + count, width);
         if !line.found {
             return no_mark();
         }

@@ -10,7 +10,7 @@ use crate::Pixel;
 use crate::decimal::put_number;
 use crate::lines::{line_bytes, put_byte, put_field, put_line};
 use answer::LONGEST;
-use stretch16::{Stretch, begin, enclosers, next};
+use stretch::{Stretch, begin, enclosers, next};
 
 // The bytes of the open runs of a reading, and those that `enclosers` asks for: four a pixel of the longest line.
 const RUNS: usize = 4 * LONGEST;

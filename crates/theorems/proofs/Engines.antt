@@ -26,7 +26,7 @@ use Rattle.frame.specs.Sweep as sweep
 use Rattle.frame.specs.Sweep.{sweep_of}
 use Rattle.frame.proofs.ByLines.{frames_same}
 use Rattle.gathering.specs.Claiming.{ClaimsLine}
-use Rattle.rows.specs.Rows.{place_of, PixelsAre, can_open, OpensIf, OpensDown, OpensShallow}
+use Rattle.rows.specs.Rows.{byte_of, PixelsAre, can_open, OpensIf, OpensDown, OpensShallow}
 
 -- ---- passes
 
@@ -114,31 +114,31 @@ module _ {b b₁ b₂ : List ℕ} where
 
 -- ---- a frame where it stands
 
--- the places of a sweep are those of the frame's pixels, by columns where it is shallow and by rows where it is steep
+-- the bytes of a sweep are those of the frame's pixels, by columns where it is shallow and by rows where it is steep
 module _ {sh : Shape} {F : ℕ → ℕ → ℕ} {b b₁ b₂ : List ℕ} (s : Sweep) (ok : is_frame sh ≡ true) where
   columns-once : (s.pace ≡ 1) × (s.sidestep ≡ sh.stride) × (s.majors ≡ sh.width) × (s.minors ≡ sh.height)
-      → PixelsAre (place_of s) s.majors s.minors F b b₁ → PixelsAre (place_of s) s.majors s.minors F b b₂ → b₁ ≡ b₂
+      → PixelsAre (byte_of s) s.majors s.minors F b b₁ → PixelsAre (byte_of s) s.majors s.minors F b b₂ → b₁ ≡ b₂
   columns-once (major-step, minor-step, majors, minors) p q =
       frames_same sh b₁ b₂ ok (p.same ∙ sym q.same)
-      (λ x y h l. subst (λ (i : ℕ). get_or b₁ i 0 ≡ get_or b₂ i 0) (same_place x y) (p.within x y (omega arith) (omega arith) ∙ sym (q.within x y (omega arith) (omega arith))))
+      (λ x y h l. subst (λ (i : ℕ). get_or b₁ i 0 ≡ get_or b₂ i 0) (byte x y) (p.within x y (omega arith) (omega arith) ∙ sym (q.within x y (omega arith) (omega arith))))
       (λ k gap.
-      let none : (i j : ℕ) → i < s.majors → j < s.minors → k ≡ place_of s i j → ⊥ = λ i j h l e. gap i j (omega arith) (omega arith) (e ∙ same_place i j) in
+      let none : (i j : ℕ) → i < s.majors → j < s.minors → k ≡ byte_of s i j → ⊥ = λ i j h l e. gap i j (omega arith) (omega arith) (e ∙ byte i j) in
       p.other k none ∙ sym (q.other k none))
     where
-      same_place : (x y : ℕ) → place_of s x y ≡ place sh (at x y)
-      same_place x y = rw (major-step, minor-step) (omega arith)
+      byte : (x y : ℕ) → byte_of s x y ≡ place sh (at x y)
+      byte x y = rw (major-step, minor-step) (omega arith)
 
   rows-once : (s.pace ≡ sh.stride) × (s.sidestep ≡ 1) × (s.majors ≡ sh.height) × (s.minors ≡ sh.width)
-      → PixelsAre (place_of s) s.majors s.minors F b b₁ → PixelsAre (place_of s) s.majors s.minors F b b₂ → b₁ ≡ b₂
+      → PixelsAre (byte_of s) s.majors s.minors F b b₁ → PixelsAre (byte_of s) s.majors s.minors F b b₂ → b₁ ≡ b₂
   rows-once (major-step, minor-step, majors, minors) p q =
       frames_same sh b₁ b₂ ok (p.same ∙ sym q.same)
-      (λ x y h l. subst (λ (i : ℕ). get_or b₁ i 0 ≡ get_or b₂ i 0) (same_place y x) (p.within y x (omega arith) (omega arith) ∙ sym (q.within y x (omega arith) (omega arith))))
+      (λ x y h l. subst (λ (i : ℕ). get_or b₁ i 0 ≡ get_or b₂ i 0) (byte y x) (p.within y x (omega arith) (omega arith) ∙ sym (q.within y x (omega arith) (omega arith))))
       (λ k gap.
-      let none : (i j : ℕ) → i < s.majors → j < s.minors → k ≡ place_of s i j → ⊥ = λ i j h l e. gap j i (omega arith) (omega arith) (e ∙ same_place i j) in
+      let none : (i j : ℕ) → i < s.majors → j < s.minors → k ≡ byte_of s i j → ⊥ = λ i j h l e. gap j i (omega arith) (omega arith) (e ∙ byte i j) in
       p.other k none ∙ sym (q.other k none))
     where
-      same_place : (y x : ℕ) → place_of s y x ≡ place sh (at x y)
-      same_place y x = rw (major-step, minor-step) (omega arith)
+      byte : (y x : ℕ) → byte_of s y x ≡ place sh (at x y)
+      byte y x = rw (major-step, minor-step) (omega arith)
 
 columns : (sh : Shape) (d : Direction) → shallow d ≡ true
     → ((sweep_of sh d).pace ≡ 1) × ((sweep_of sh d).sidestep ≡ sh.stride) × ((sweep_of sh d).majors ≡ sh.width) × ((sweep_of sh d).minors ≡ sh.height)

@@ -7,15 +7,14 @@
 --   highest_is, direction-is                     each pixel of the two frames that `highest` leaves: the highest over sixteen directions, and its direction
 --   direction-reaches, direction-lowest          the two frames together: the opening in the direction stored is the brightness stored, and a lower number's is below it
 --   frame_no_brighter, highest_no_brighter       no pixel of an opened frame, nor of the highest opening, is brighter than the pixel it came from
---   frame-gaps, highest_gaps, direction-gaps     what is no pixel's never changes
---   row_is, row-none                             the lent row, pixels of the caller's slice; the empty part where there is no such row
+--   frame-gaps, highest_gaps, direction-gaps     bytes that are no pixel's never change
+--   row_is, row-none                             the lent row, bytes of the caller's slice; the empty part where there is no such row
 --   row_its_own                                  it is no other row, were it the same pixel by pixel
 -- Assumes nothing.
 use mathlib.Core.Path.{◌≡◌, refl, sym, ap, subst, ◌∙◌}
 use mathlib.Core.Bool.{true, false}
 use mathlib.Core.List.{List, [], ◌∷◌, map}
 use Prim.Native.Nat.{ℕ, zero, suc, ◌+◌, ◌*◌, ◌≤◌, ◌<◌}
-use native.Mathlib.Nat.{eq_of_mul-eq-mul_right}
 use native.Mathlib.Omega.{arith}
 use lib.IntN.{ℤ}
 use lib.ListN.{length, get_or, length-map}
@@ -206,27 +205,26 @@ module _ {f : List ℕ} {sh : Shape} {L : ℕ} {g g' h h' t t' : List ℕ} {a : 
 -- ---- the lent row
 
 -- 'A row of a frame is lent back without its gap, as the W bytes themselves in the caller's slice.'
-pub row_is : {bytes : ℕ} {src part : Bor (List ℕ)} {sh : Shape} {y : ℕ} → LendsRow bytes src sh y part → is_frame sh ≡ true → needed sh ≤ length src.now → y < sh.height
-    → PartOf bytes src (y * sh.stride) sh.width part
-row_is {bytes} {src} {part} {sh} {y} p ok fits here =
+pub row_is : {src part : Bor (List ℕ)} {sh : Shape} {y : ℕ} → LendsRow src sh y part → is_frame sh ≡ true → needed sh ≤ length src.now → y < sh.height
+    → PartOf src (y * sh.stride) sh.width part
+row_is {src} {part} {sh} {y} p ok fits here =
     record {
       memory = p.memory;
-      begins = p.begins ∙ ap (λ (n : ℕ). src.ref_ptr.1 + n * bytes) (row_from src.now sh y ok fits here);
+      begins = p.begins ∙ ap (λ (n : ℕ). src.ref_ptr.1 + n) (row_from src.now sh y ok fits here);
       size = ap length p.contents ∙ row-length src.now sh y ok fits here;
-      pixels = λ x h. ap (λ (l : List ℕ). get_or l x 0) p.contents ∙ row-pixel src.now sh y ok fits here x h;
+      bytes = λ x h. ap (λ (l : List ℕ). get_or l x 0) p.contents ∙ row-pixel src.now sh y ok fits here x h;
     }
 
 -- 'A row number of H or more, or a frame that rule 1 or 5 refuses, gives the empty part.'
-pub row-none : {bytes : ℕ} {src part : Bor (List ℕ)} {sh : Shape} {y : ℕ} → LendsRow bytes src sh y part → has_row sh y (length src.now) ≡ false → PartOf bytes src 0 0 part
+pub row-none : {src part : Bor (List ℕ)} {sh : Shape} {y : ℕ} → LendsRow src sh y part → has_row sh y (length src.now) ≡ false → PartOf src 0 0 part
 row-none p none =
-    record { memory = p.memory; begins = rw none at p.begins; size = ap length (rw none at p.contents); pixels = λ x h. absurd (omega arith) }
+    record { memory = p.memory; begins = rw none at p.begins; size = ap length (rw none at p.contents); bytes = λ x h. absurd (omega arith) }
 
--- one part is not lent as two rows of a frame, whatever bytes a pixel has
-pub row_its_own : {bytes : ℕ} {src part : Bor (List ℕ)} {sh : Shape} {y z : ℕ} → 1 ≤ bytes → LendsRow bytes src sh y part → LendsRow bytes src sh z part → is_frame sh ≡ true
+-- one part is not lent as two rows of a frame
+pub row_its_own : {src part : Bor (List ℕ)} {sh : Shape} {y z : ℕ} → LendsRow src sh y part → LendsRow src sh z part → is_frame sh ≡ true
     → needed sh ≤ length src.now → y < sh.height → z < sh.height → y ≡ z
-row_its_own {bytes} {src} {part} {sh} {y} {z} some p q ok fits here there =
+row_its_own {src} {part} {sh} {y} {z} p q ok fits here there =
     let shaped = framed sh ok in
     let first = (row_is p ok fits here).begins in
     let second = (row_is q ok fits there).begins in
-    let same = eq_of_mul-eq-mul_right bytes some (y * sh.stride) (z * sh.stride) (omega (arith, first, second)) in
     (flat sh.stride 0 y 0 z (omega (arith, shaped)) (omega (arith, shaped)) (omega arith)).1

@@ -7,7 +7,7 @@
 --   sums_of_line-once, sums_of_frame-once, rose_once
 --   sums-text-once, read_input_once, line-text-once, refusal-text-once
 -- The contract of every other call is an equation `answer ≡ definition`, which one value alone meets: `lines_of`, `line_number`, `sweep_of`, `track_of`,
--- `shift_at`, `numbered`, `turned`, `is_shallow`, `goes_down`, `is_direction`, `is_frame`, `needed`, `scratch`, `begin`, `count`, `rose_refusal`,
+-- `shift_at`, `numbered`, `turned`, `is_shallow`, `goes_down`, `is_direction`, `is_frame`, `bytes`, `scratch`, `begin`, `count`, `rose_refusal`,
 -- `summarize`, `is_outside`, `growth`, `open_in_place`, `done`, `refused`, `unless`, `needing`. Engines has the calls that only other crates of the library make.
 -- Assumes nothing.
 use mathlib.Core.Path.{◌≡◌, sym, ap, ◌∙◌}
@@ -80,8 +80,8 @@ module _ {src : List ℕ} {sh : Shape} {d : Direction} {k : ℤ} {dst dst₁ dst
       let e : a₁ ≡ a₂ = p.answers ∙ sym q.answers in
       (e, alike (stored (map (place sh) (pixels sh d k)) src dst) dst e p.written q.written)
 
--- the lent part: the memory it stands in, where it begins there, and its pixels
-pub row-once : {bytes : ℕ} {src p₁ p₂ : Bor (List ℕ)} {sh : Shape} {y : ℕ} → LendsRow bytes src sh y p₁ → LendsRow bytes src sh y p₂
+-- the lent part: the memory it stands in, where it begins there, and its bytes
+pub row-once : {src p₁ p₂ : Bor (List ℕ)} {sh : Shape} {y : ℕ} → LendsRow src sh y p₁ → LendsRow src sh y p₂
     → (p₁.ref_ptr.0 ≡ p₂.ref_ptr.0) × (p₁.ref_ptr.1 ≡ p₂.ref_ptr.1) × (p₁.now ≡ p₂.now)
 row-once p q = (p.memory ∙ sym q.memory, p.begins ∙ sym q.begins, p.contents ∙ sym q.contents)
 

@@ -14,7 +14,6 @@
 --   fifth-next            of each but the last: it is the place of the next record that does not start after this one
 --   fifth-base            of each but the last: the base is the level of the record at that place
 --   fifth-whole           the last record is the whole line: its fifth number is its own place, and its base 0
---   counted_eight, counted-sixteen    the call `count`: of 8-bit pixels a line of any length, of 16-bit pixels one of at most 4,096
 -- Assumes nothing.
 use mathlib.Core.Path.{◌≡◌, sym, ap, ◌∙◌}
 use mathlib.Core.List.{List, Memᴰ, map}
@@ -29,7 +28,7 @@ use Rattle.lists.specs.Stores.{front}
 use Rattle.lists.proofs.Members.{mem_at}
 use Rattle.lists.proofs.Stores.{front_at, front-past}
 use Rattle.answer.specs.declared.Answer.{Answer}
-use Rattle.answer.specs.Limits.{longest, brightest8, brightest16}
+use Rattle.answer.specs.Limits.{longest}
 use Rattle.answer.specs.Rules.{done}
 use Rattle.answer.proofs.Rules.{after-done, outside_not}
 use Rattle.line.specs.Windows.{opened}
@@ -37,13 +36,13 @@ use Rattle.bright.specs.declared.Stretch.{Stretch}
 use Rattle.bright.specs.declared.Nested.{Nested}
 use Rattle.bright.specs.Stretches.{level_of, stretch_of, stretches, Bright, ListedBefore, no_stretch}
 use Rattle.bright.specs.Nesting.{stretch_at, encloser_of, nested, records, RightPlace, NextLow}
-use Rattle.bright.specs.Listing.{count_of, ListsLine}
+use Rattle.bright.specs.Listing.{ListsLine}
 use Rattle.bright.proofs.Listed.{stretch-listed, listed-stretch}
 use Rattle.bright.proofs.Order.{stretches-ordered, ordered-before, before_differs}
 use Rattle.bright.proofs.Nest.{base-whole}
 use Rattle.bright.proofs.Enclosers.{whole-last, encloser_next, encloser_own, encloser_right, right-once, encloser_base}
 use Rattle.bright.proofs.Records.{records-length, records-at, records-stretches}
-use Rattle.bright.proofs.Counting.{stretches-few, count-all}
+use Rattle.bright.proofs.Counting.{stretches-few}
 use Rattle.bridge.specs.Reach.{reaching}
 use Rattle.bridge.specs.Sums.{bin_for, rest_for, light_of}
 use Rattle.bridge.proofs.Openings.{opened-stretches}
@@ -158,11 +157,3 @@ module _ {f : List ℕ} {table table' : List Nested} {scratch scratch' : List �
         let here : m.0 ≡ a.figure - 1 = omega (arith, last, counted) in
         let whole : stretch_at in_table (a.figure - 1) ≡ stretch_of f 0 (length f) = rw (← here, listed-is) m.2 in
         (whole, rw here at own, ap (λ (s : Stretch). s.base) whole ∙ base-whole f)
-
--- ---- the count without the list
-
-pub counted_eight : (f : List ℕ) → count_of brightest8 f ≡ length (stretches f)
-counted_eight f = count-all brightest8 f (omega arith)
-
-pub counted-sixteen : (f : List ℕ) → length f ≤ longest → count_of brightest16 f ≡ length (stretches f)
-counted-sixteen f h = count-all brightest16 f (omega arith)

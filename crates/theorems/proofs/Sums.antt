@@ -40,17 +40,17 @@ use Rattle.opening.proofs.Calls.{open_ready}
 use Rattle.bright.specs.Stretches.{stretches}
 use Rattle.bridge.specs.Sums.{sum_for, bin_for, rest_for, light_of}
 use Rattle.bridge.proofs.Sizes.{bin-stretches, rest-stretches}
-use Rattle.sizes.specs.Sums.{line_sums, line_at, pixel_sum, frame_sum, frame_sums, Dim}
+use Rattle.sizes.specs.Sums.{line_sums, line_at, pixel_sum, frame_sum, frame_sums}
 use Rattle.sizes.specs.Line.{SumsLine}
 use Rattle.sizes.specs.Frame.{SumsFrame}
 use Rattle.sizes.specs.Rose.{rose_rules, rose_of, refused_rose, Roses}
-use Rattle.summary.specs.declared.Summary.{Summary}
-use Rattle.summary.specs.Summary.{bins_of, rest_of, weighted, exactest, float, quotient, summary_rules, summary_of}
+use Rattle.sizes.specs.declared.summary.Summary.{Summary}
+use Rattle.sizes.specs.Summary.{bins_of, rest_of, weighted, exactest, float, quotient, summary_rules, summary_of}
 use Rattle.sizes.proofs.Bins.{sums-bin, sums-rest, sum-falls, line-total}
 use Rattle.sizes.proofs.Calls.{frame-fits}
 use Rattle.sizes.proofs.Gathered.{frame-total}
 use Rattle.sizes.proofs.Rows.{rose_fits, sum_never_largest}
-use Rattle.summary.proofs.Summaries.{float_back, quotient_rounded}
+use Rattle.sizes.proofs.Summaries.{float_back, quotient_rounded}
 use Rattle.theorems.proofs.Refusals.{rose_settled, summary_settled}
 use Rattle.theorems.proofs.Openings.{frame-lines}
 
@@ -135,8 +135,8 @@ module _ {f : List ℕ} {sh : Shape} {t t' : List ℕ} {r : List (List ℕ)} (p 
       ap total (rose_row n h) ∙ frame-total f sh (numbered_of n) 32 (accepted n h)
 
   -- 'a table of 64-bit largest numbers, which no sum reaches'
-  pub rose_unmarked : {brightest : ℕ} → Dim brightest f → (n j : ℕ) → n < 16 → get_or (get_or r n []) j 0 < 2 ^ 64 - 1
-  rose_unmarked dim n j h = rw (rose_row n h) (sum_never_largest f sh (numbered_of n) 32 j (accepted n h) dim)
+  pub rose_unmarked : ((i : ℕ) → get_or f i 0 ≤ 255) → (n j : ℕ) → n < 16 → get_or (get_or r n []) j 0 < 2 ^ 64 - 1
+  rose_unmarked bytes n j h = rw (rose_row n h) (sum_never_largest f sh (numbered_of n) 32 j (accepted n h) bytes)
 
 -- ---- the summary: A is the total of the bins, B the same with each bin multiplied by its length
 

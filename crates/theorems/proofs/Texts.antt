@@ -4,22 +4,18 @@
 --   refusal-text-is, refusal-text-none   the same of `refusal_text` and a refusal's number; refusal_nine: of number 9
 --   input_given, given_input             `read_input` with room for the pixels takes just the inputs that the document allows, and hands back the frame whose
 --                                        text they are: reading inverts the rendering
---   given_once                           no text is the input of two frames
---   brightest_eight, brightest_sixteen   the greatest level that an input may have, by its bits
 --   example_sums-text, example_sums_lem  the example of the program sums, byte for byte: of its sums, and from its input to its output
 --   example_line-text, example_one-line, example_stretches_lem  the same of the program stretches
---   example_sums_text16, example_sums16_lem, example_line_text16, example_stretches16_lem  the same of an input of 16 bits
 -- That the programs hand their input to these calls, and print what these write, no contract can say; check/programs runs them.
 -- Assumes nothing.
 use mathlib.Core.Path.{◌≡◌, refl, sym, ap, ap₂, subst, ◌∙◌}
 use mathlib.Core.Bool.{true}
 use mathlib.Core.List.{List, [], ◌∷◌, ◌++◌}
-use mathlib.Core.Logic.{◌⊎◌, inl, inr, ⊎_elim}
-use Prim.Native.Nat.{ℕ, zero, suc, ◌+◌, ◌-◌, ◌*◌, ◌≤◌, ◌<◌, zero-le}
+use mathlib.Core.Logic.{◌⊎◌, ⊎_elim}
+use Prim.Native.Nat.{ℕ, zero, suc, ◌+◌, ◌-◌, ◌*◌, ◌≤◌, ◌<◌}
 use native.Mathlib.Omega.{arith}
 use lib.IntN.{ℤ, pos}
 use lib.ListN.{length, get_or, take, drop}
-use lib.Seq.{take_at}
 use borrow.Author.Tests.{ltb-false, not-false, lt-leb, le-leb}
 use Rattle.lists.specs.Tables as tables
 use Rattle.lists.specs.Extremes as extremes
@@ -41,16 +37,16 @@ use Rattle.sizes.specs.Frame.{SumsFrame}
 use Rattle.text.specs.declared.input.Input.{Input}
 use Rattle.text.specs.Decimal.{digits, decimal}
 use Rattle.text.specs.Lines.{fields_text}
-use Rattle.text.specs.Reading.{Values, valued}
-use Rattle.text.specs.Inputs.{longest_input, rows_text, direction_in, width_in, height_in, bits_in, brightest_of, rows_in, head_of, input_rules, ReadsInput}
+use Rattle.text.specs.Reading.{Values}
+use Rattle.text.specs.Inputs.{longest_input, frame_text, direction_in, width_in, height_in, rows_in, head_of, input_rules, ReadsInput}
 use Rattle.text.specs.Stretches.{line_report, refusal_text, PrintsLine, PrintsRefusal}
 use Rattle.text.specs.Sums.{sums_text, WritesSums}
-use Rattle.text.proofs.Texts.{sums_example, sums_example16}
-use Rattle.text.proofs.Reports.{report_fits, report_some, printable, too_long, no_room, refusal_is, refusal-length, line_example, line_example16}
+use Rattle.text.proofs.Texts.{sums_example}
+use Rattle.text.proofs.Reports.{report_fits, report_some, printable, too_long, no_room, refusal_is, refusal-length, line_example}
 use Rattle.text.proofs.Frames.{rows-below, rows-many}
-use Rattle.text.proofs.Inputs.{input_example, input_example16, Within, head_found, head_bits, frame-written, accepted-text, text-accepted}
+use Rattle.text.proofs.Inputs.{input_example, head_found, frame-written, accepted-text, text-accepted}
 use Rattle.theorems.specs.Marked.{line}
-use Rattle.theorems.specs.Texts.{example_input, example_stretches, example_sums, line16, example_input16, example_stretches16, example_sums16, Given}
+use Rattle.theorems.specs.Texts.{example_input, example_stretches, example_sums, Given}
 use Rattle.theorems.proofs.Refusals.{gather_settled, sums-text-settled, read_input_settled}
 
 -- ---- the sums text
@@ -68,12 +64,6 @@ pub example_sums-text : {dst dst' : List ℕ} {a : Answer} → WritesSums 0 (2 �
 example_sums-text {dst} p z =
     let t = sums-text-is p z in
     (t.0 ∙ ap (λ (t : List ℕ). front t dst) sums_example, t.1 ∙ ap length sums_example)
-
-pub example_sums_text16 : {dst dst' : List ℕ} {a : Answer} → WritesSums 0 (200 ∷ 130558 ∷ 468 ∷ 500 ∷ []) dst dst' a → a.number ≡ 0
-    → (dst' ≡ front example_sums16 dst) × (a.figure ≡ length example_sums16)
-example_sums_text16 {dst} p z =
-    let t = sums-text-is p z in
-    (t.0 ∙ ap (λ (t : List ℕ). front t dst) sums_example16, t.1 ∙ ap length sums_example16)
 
 -- ---- what is printed of a line and of a refusal
 
@@ -101,12 +91,6 @@ example_line-text {dst} p fit =
     let t = line-text-is p (omega arith) (rw line_example fit) in
     (t.0 ∙ ap (λ (t : List ℕ). front t dst) line_example, t.1 ∙ ap length line_example)
 
-pub example_line_text16 : {dst dst' : List ℕ} {n : ℕ} → PrintsLine (pos 0) line16 dst dst' n → length example_stretches16 ≤ length dst
-    → (dst' ≡ front example_stretches16 dst) × (n ≡ length example_stretches16)
-example_line_text16 {dst} p fit =
-    let t = line-text-is p (omega arith) (rw line_example16 fit) in
-    (t.0 ∙ ap (λ (t : List ℕ). front t dst) line_example16, t.1 ∙ ap length line_example16)
-
 module _ {k : ℕ} {dst dst' : List ℕ} {n : ℕ} (p : PrintsRefusal k dst dst' n) where
   -- 'A refusal prints `E` and the number only': `E` is 69, a tab 9, a line feed 10
   pub refusal-text-is : 3 + length (decimal k) ≤ length dst → (dst' ≡ front (69 ∷ 9 ∷ (decimal k ++ (10 ∷ []))) dst) × (n ≡ 3 + length (decimal k))
@@ -125,17 +109,9 @@ refusal_nine = refl
 
 -- ---- the input
 
--- 'pixels to 255'
-pub brightest_eight : brightest_of 8 ≡ 255
-brightest_eight = refl
-
--- 'The text form allows pixels to 65,535 when the `F` line has a third field 16'
-pub brightest_sixteen : brightest_of 16 ≡ 65535
-brightest_sixteen = refl
-
 module _ {s dst dst' : List ℕ} {r : Input} (p : ReadsInput s dst dst' r) where
   -- a text that the call takes is one that the document allows, and the text of the frame that is handed back
-  pub input_given : r.answer.number ≡ 0 → (ps : List ℕ) × Given s r.direction r.width r.height r.bits ps × (dst' ≡ front ps dst)
+  pub input_given : r.answer.number ≡ 0 → (ps : List ℕ) × Given s r.direction r.width r.height ps × (dst' ≡ front ps dst)
   input_given z =
       let a = answer (input_rules s (length dst)) 0 in
       let k = (read_input_settled p).only_if z in
@@ -143,71 +119,55 @@ module _ {s dst dst' : List ℕ} {r : Input} (p : ReadsInput s dst dst' r) where
       let d-is : r.direction ≡ direction_in s = ap (λ (r : Input). r.direction) p.reads ∙ after-done a (direction_in s) 0 zero_is in
       let w-is : r.width ≡ width_in s = ap (λ (r : Input). r.width) p.reads ∙ after-done a (width_in s) 0 zero_is in
       let h-is : r.height ≡ height_in s = ap (λ (r : Input). r.height) p.reads ∙ after-done a (height_in s) 0 zero_is in
-      let b-is : r.bits ≡ bits_in s = ap (λ (r : Input). r.bits) p.reads ∙ after-done a (bits_in s) 0 zero_is in
       let found : (rows_in s).found ≡ true = not-false (rows_in s).found k.1.1.1.1.1.0 in
-      let given : Given s (direction_in s) (width_in s) (height_in s) (bits_in s) (rows_in s).values =
+      let given : Given s (direction_in s) (width_in s) (height_in s) (rows_in s).values =
       record {
         is = accepted-text s (length dst) zero_is;
         size = ltb-false longest_input (length s) k.0;
         numbered = ltb-false 15 (direction_in s) k.1.1.1.1.0;
         wide = outside_not 1 longest (width_in s) k.1.1.0;
         high = outside_not 1 longest (height_in s) k.1.1.1.0;
-        many = rows-many (brightest_of (bits_in s)) (height_in s) (width_in s) (head_of s).rest found;
-        bits = head_bits s (not-false (head_of s).found k.1.0);
-        dim = rows-below (brightest_of (bits_in s)) (height_in s) (width_in s) (head_of s).rest found;
+        many = rows-many (height_in s) (width_in s) (head_of s).rest found;
+        dim = rows-below (height_in s) (width_in s) (head_of s).rest found;
       } in
-      ((rows_in s).values, rw (d-is, w-is, h-is, b-is) given, p.written ∙ after-done r.answer (front (rows_in s).values dst) dst z)
+      ((rows_in s).values, rw (d-is, w-is, h-is) given, p.written ∙ after-done r.answer (front (rows_in s).values dst) dst z)
 
-module _ {s : List ℕ} {d w h b : ℕ} {ps : List ℕ} (g : Given s d w h b ps) where
-  given_dim : Within (brightest_of b) ps
-  given_dim = all_of (λ (v : ℕ). v ≤ brightest_of b) 0 ps (λ k h. g.dim k)
+read_back : (d w h : ℕ) (ps : List ℕ) {dst dst' : List ℕ} {r : Input} → ReadsInput (frame_text d w h ps) dst dst' r → Given (frame_text d w h ps) d w h ps → w * h ≤ length dst
+    → (r ≡ record { answer = done 0; direction = d; width = w; height = h }) × (dst' ≡ front ps dst)
+read_back d w h ps {dst} {dst'} {r} p g room =
+    let s = frame_text d w h ps in
+    let dim = all_of (λ (v : ℕ). v ≤ 255) 0 ps (λ k h. g.dim k) in
+    let wide = not_outside 1 longest w g.wide.0 g.wide.1 in
+    let high = not_outside 1 longest h g.high.0 g.high.1 in
+    let e = text-accepted d w h ps (length dst) g.numbered wide high g.many dim g.size room in
+    let head = head_found d w h ps (omega (arith, g.numbered)) (omega (arith, g.wide.1)) (omega (arith, g.high.1)) in
+    let rows = frame-written d w h ps (omega (arith, g.numbered)) (omega (arith, g.wide.1)) (omega (arith, g.high.1)) g.many dim in
+    let handed : Answer → Values → Input =
+    λ (a : Answer) (v : Values). record { answer = a; direction = after a (get_or v.values 0 0) 0; width = after a (get_or v.values 1 0) 0; height = after a (get_or v.values 2 0) 0 } in
+    let is : r ≡ record { answer = done 0; direction = d; width = w; height = h } = p.reads ∙ ap₂ handed e head in
+    let z : r.answer.number ≡ 0 = ap (λ (r : Input). r.answer.number) is in
+    (is, p.written ∙ after-done r.answer (front (rows_in s).values dst) dst z ∙ ap (λ (v : Values). front v.values dst) rows)
 
-  given_head : head_of s ≡ valued (d ∷ w ∷ h ∷ b ∷ []) (rows_text h w ps)
-  given_head = ap head_of g.is ∙ head_found d w h b ps (omega (arith, g.numbered)) (omega (arith, g.wide.1)) (omega (arith, g.high.1)) g.bits
-
-  given_rows : rows_in s ≡ valued ps []
-  given_rows =
-      ap rows_in g.is ∙ frame-written d w h b ps (omega (arith, g.numbered)) (omega (arith, g.wide.1)) (omega (arith, g.high.1)) g.bits g.many given_dim
-
-  given_accepted : (room : ℕ) → w * h ≤ room → answer (input_rules s room) 0 ≡ done 0
-  given_accepted room fit =
-      let wide = not_outside 1 longest w g.wide.0 g.wide.1 in
-      let high = not_outside 1 longest h g.high.0 g.high.1 in
-      let size = subst (λ (s : List ℕ). length s ≤ longest_input) g.is g.size in
-      ap (λ (s : List ℕ). answer (input_rules s room) 0) g.is ∙ text-accepted d w h b ps room g.numbered wide high g.bits g.many given_dim size fit
-
--- no text is the input of two frames
-pub given_once : {s : List ℕ} {d w h b : ℕ} {ps : List ℕ} {d' w' h' b' : ℕ} {ps' : List ℕ} → Given s d w h b ps → Given s d' w' h' b' ps'
-    → (d ≡ d') × (w ≡ w') × (h ≡ h') × (b ≡ b') × (ps ≡ ps')
-given_once g k =
-    let numbers = ap (λ (v : Values). v.values) (sym (given_head g) ∙ given_head k) in
-    let number : (n : ℕ) → _ = λ (n : ℕ). ap (λ (l : List ℕ). get_or l n 0) numbers in
-    (number 0, number 1, number 2, number 3, ap (λ (v : Values). v.values) (sym (given_rows g) ∙ given_rows k))
-
-module _ {s dst dst' : List ℕ} {r : Input} {d w h b : ℕ} {ps : List ℕ} where
+module _ {s dst dst' : List ℕ} {r : Input} {d w h : ℕ} {ps : List ℕ} where
   -- an input that the document allows is read, given room for its pixels, and the frame is the one whose text it is
-  pub given_input : ReadsInput s dst dst' r → Given s d w h b ps → w * h ≤ length dst
-      → (r ≡ record { answer = done 0; direction = d; width = w; height = h; bits = b }) × (dst' ≡ front ps dst)
+  pub given_input : ReadsInput s dst dst' r → Given s d w h ps → w * h ≤ length dst
+      → (r ≡ record { answer = done 0; direction = d; width = w; height = h }) × (dst' ≡ front ps dst)
   given_input p g room =
-      let numbers : Answer → List ℕ → Input =
-      λ (a : Answer) (vs : List ℕ). record { answer = a; direction = after a (get_or vs 0 0) 0; width = after a (get_or vs 1 0) 0; height = after a (get_or vs 2 0) 0; bits = after a (get_or vs 3 0) 0 } in
-      let handed : Answer → Values → Input = λ (a : Answer) (v : Values). numbers a v.values in
-      let is : r ≡ record { answer = done 0; direction = d; width = w; height = h; bits = b } = p.reads ∙ ap₂ handed (given_accepted g (length dst) room) (given_head g) in
-      let z : r.answer.number ≡ 0 = ap (λ (r : Input). r.answer.number) is in
-      (is, p.written ∙ after-done r.answer (front (rows_in s).values dst) dst z ∙ ap (λ (v : Values). front v.values dst) (given_rows g))
+      let q : ReadsInput (frame_text d w h ps) dst dst' r = subst (λ (s : List ℕ). ReadsInput s dst dst' r) g.is p in
+      let k : Given (frame_text d w h ps) d w h ps = subst (λ (s : List ℕ). Given s d w h ps) g.is g in
+      read_back d w h ps q k room
 
 -- ---- the example of the programs, from their input to their output: the calls that each makes, one after the other
 
--- no value of a list of five is above `most`
-dim_five : (most v₀ v₁ v₂ v₃ v₄ : ℕ) → v₀ ≤ most → v₁ ≤ most → v₂ ≤ most → v₃ ≤ most → v₄ ≤ most → (k : ℕ) → get_or (v₀ ∷ v₁ ∷ v₂ ∷ v₃ ∷ v₄ ∷ []) k 0 ≤ most
-dim_five most v₀ v₁ v₂ v₃ v₄ h₀ h₁ h₂ h₃ h₄ zero = h₀
-dim_five most v₀ v₁ v₂ v₃ v₄ h₀ h₁ h₂ h₃ h₄ (suc zero) = h₁
-dim_five most v₀ v₁ v₂ v₃ v₄ h₀ h₁ h₂ h₃ h₄ (suc (suc zero)) = h₂
-dim_five most v₀ v₁ v₂ v₃ v₄ h₀ h₁ h₂ h₃ h₄ (suc (suc (suc zero))) = h₃
-dim_five most v₀ v₁ v₂ v₃ v₄ h₀ h₁ h₂ h₃ h₄ (suc (suc (suc (suc zero)))) = h₄
-dim_five most v₀ v₁ v₂ v₃ v₄ h₀ h₁ h₂ h₃ h₄ (suc (suc (suc (suc (suc k))))) = zero-le
+dim-line : (k : ℕ) → get_or line k 0 ≤ 255
+dim-line zero = omega arith
+dim-line (suc zero) = omega arith
+dim-line (suc (suc zero)) = omega arith
+dim-line (suc (suc (suc zero))) = omega arith
+dim-line (suc (suc (suc (suc zero)))) = omega arith
+dim-line (suc (suc (suc (suc (suc k))))) = omega arith
 
-example_given : Given example_input 0 5 1 8 line
+example_given : Given example_input 0 5 1 line
 example_given =
     record {
       is = sym input_example;
@@ -216,99 +176,55 @@ example_given =
       wide = (omega arith, omega arith);
       high = (omega arith, omega arith);
       many = refl;
-      bits = inl refl;
-      dim = dim_five 255 3 5 5 2 4 (omega arith) (omega arith) (omega arith) (omega arith) (omega arith);
-    }
-
-example_given16 : Given example_input16 0 5 1 16 line16
-example_given16 =
-    record {
-      is = sym input_example16;
-      size = omega arith;
-      numbered = omega arith;
-      wide = (omega arith, omega arith);
-      high = (omega arith, omega arith);
-      many = refl;
-      bits = inr refl;
-      dim = dim_five 65535 256 65535 65535 100 300 (omega arith) (omega arith) (omega arith) (omega arith) (omega arith);
+      dim = dim-line;
     }
 
 example_bins : (rest : List ℕ) → frame_sums (line ++ rest) (shape 5 1 5) (numbered_of 0) 3 ≡ 2 ∷ 4 ∷ 3 ∷ 10 ∷ []
 unfolding tables.each extremes.least extremes.greatest extremes.total windows.opened measures.first_from lines.r
 example_bins rest = refl
 
-example_bins16 : (rest : List ℕ) → frame_sums (line16 ++ rest) (shape 5 1 5) (numbered_of 0) 3 ≡ 200 ∷ 130558 ∷ 468 ∷ 500 ∷ []
-unfolding tables.each extremes.least extremes.greatest extremes.total windows.opened measures.first_from lines.r
-example_bins16 rest = refl
-
-example_count : length (pixels (shape 5 1 5) (numbered_of 0) (pos 0)) ≡ 5
-unfolding tables.each lines.r
-example_count = refl
-
--- an input of a row of five pixels, of either width, in direction 0
-module _ {s ps px px' : List ℕ} {b : ℕ} {r : Input} (p : ReadsInput s px px' r) (g : Given s 0 5 1 b ps) (room : 5 ≤ length px) where
-  -- what the program sums makes of it, with four entries for the sums: 'K fixed at 3'
-  summed : {sums sums' t t' out out' : List ℕ} {a₁ a₂ : Answer} → length sums ≡ 4
-      → SumsFrame px' (shape r.width r.height r.width) (numbered_of r.direction) sums sums' t t' a₁ → a₁.number ≡ 0
-      → WritesSums r.direction sums' out out' a₂ → WritesSums 0 (frame_sums (front ps px) (shape 5 1 5) (numbered_of 0) 3) out out' a₂
-  summed {sums} {sums'} {out = out} {out' = out'} {a₁ = a₁} {a₂ = a₂} four q y w =
-      let read = given_input p g room in
-      let handed : Input → List ℕ → ℕ → List ℕ =
-      λ (r : Input) (f : List ℕ) (n : ℕ). frame_sums f (shape r.width r.height r.width) (numbered_of r.direction) (n - 1) in
-      let filled : sums' ≡ handed r px' (length sums) = q.written ∙ after-done a₁ (handed r px' (length sums)) sums y in
-      let bins : sums' ≡ frame_sums (front ps px) (shape 5 1 5) (numbered_of 0) 3 =
-      filled ∙ ap (λ (n : ℕ). handed r px' n) four ∙ ap₂ (λ (r : Input) (f : List ℕ). handed r f 4) read.0 read.1 in
-      let writes : WritesSums 0 sums' out out' a₂ = subst (λ (r : Input). WritesSums r.direction sums' out out' a₂) read.0 w in
-      subst (λ (s : List ℕ). WritesSums 0 s out out' a₂) bins writes
-
-  -- what the program stretches makes of its line
-  gathered : {buf buf' out out' : List ℕ} {a : Answer} {n : ℕ} → line_read (front ps px) (shape 5 1 5) (numbered_of 0) (pos 0) ≡ ps → length ps ≡ 5
-      → Gathers px' (shape r.width r.height r.width) (numbered_of r.direction) (pos 0) buf buf' a → a.number ≡ 0
-      → PrintsLine (pos 0) (take a.figure buf') out out' n → PrintsLine (pos 0) ps out out' n
-  gathered {buf} {buf'} {out} {out'} {a} {n} whole many q y w =
-      let read = given_input p g room in
-      let of-frame : Gathers px' (shape 5 1 5) (numbered_of 0) (pos 0) buf buf' a =
-      subst (λ (r : Input). Gathers px' (shape r.width r.height r.width) (numbered_of r.direction) (pos 0) buf buf' a) read.0 q in
-      let g : Gathers (front ps px) (shape 5 1 5) (numbered_of 0) (pos 0) buf buf' a =
-      subst (λ (f : List ℕ). Gathers f (shape 5 1 5) (numbered_of 0) (pos 0) buf buf' a) read.1 of-frame in
-      let s = gather_settled g in
-      let five : a.figure ≡ length ps = ap (λ (a : Answer). a.figure) (s.done_if (s.only_if y)) ∙ example_count ∙ sym many in
-      let stored : buf' ≡ front ps buf =
-      g.written ∙ after-done a (front (line_read (front ps px) (shape 5 1 5) (numbered_of 0) (pos 0)) buf) buf y ∙ ap (λ (l : List ℕ). front l buf) whole in
-      let taken : take a.figure buf' ≡ ps = ap₂ (λ (n : ℕ) (l : List ℕ). take n l) five stored ∙ take_at ps (drop (length ps) buf) (length ps) refl in
-      subst (λ (l : List ℕ). PrintsLine (pos 0) l out out' n) taken w
-
+-- with four entries for the sums: 'K fixed at 3'
 module _ {px px' sums sums' t t' out out' : List ℕ} {r : Input} {b a : Answer} where
   pub example_sums_lem : ReadsInput example_input px px' r → 5 ≤ length px → length sums ≡ 4
       → SumsFrame px' (shape r.width r.height r.width) (numbered_of r.direction) sums sums' t t' b → b.number ≡ 0
       → WritesSums r.direction sums' out out' a → a.number ≡ 0 → (out' ≡ front example_sums out) × (a.figure ≡ length example_sums)
   example_sums_lem p room four q y w z =
-      example_sums-text (subst (λ (s : List ℕ). WritesSums 0 s out out' a) (example_bins (drop 5 px)) (summed p example_given room four q y w)) z
-
-  pub example_sums16_lem : ReadsInput example_input16 px px' r → 5 ≤ length px → length sums ≡ 4
-      → SumsFrame px' (shape r.width r.height r.width) (numbered_of r.direction) sums sums' t t' b → b.number ≡ 0
-      → WritesSums r.direction sums' out out' a → a.number ≡ 0 → (out' ≡ front example_sums16 out) × (a.figure ≡ length example_sums16)
-  example_sums16_lem p room four q y w z =
-      example_sums_text16 (subst (λ (s : List ℕ). WritesSums 0 s out out' a) (example_bins16 (drop 5 px)) (summed p example_given16 room four q y w)) z
+      let read = given_input p example_given room in
+      let handed : Input → List ℕ → ℕ → List ℕ =
+      λ (r : Input) (f : List ℕ) (n : ℕ). frame_sums f (shape r.width r.height r.width) (numbered_of r.direction) (n - 1) in
+      let filled : sums' ≡ handed r px' (length sums) = q.written ∙ after-done b (handed r px' (length sums)) sums y in
+      let bins : sums' ≡ 2 ∷ 4 ∷ 3 ∷ 10 ∷ [] =
+      filled ∙ ap (λ (n : ℕ). handed r px' n) four ∙ ap₂ (λ (r : Input) (f : List ℕ). handed r f 4) read.0 read.1 ∙ example_bins (drop 5 px) in
+      let writes : WritesSums 0 sums' out out' a = subst (λ (r : Input). WritesSums r.direction sums' out out' a) read.0 w in
+      example_sums-text (subst (λ (s : List ℕ). WritesSums 0 s out out' a) bins writes) z
 
 -- the frame of the example has one line, number 0
 pub example_one-line : lines_of (shape 5 1 5) (numbered_of 0) ≡ record { first = pos 0; count = 1 }
 unfolding lines.r
 example_one-line = refl
 
-example_line : (v₀ v₁ v₂ v₃ v₄ : ℕ) (rest : List ℕ) → line_read ((v₀ ∷ v₁ ∷ v₂ ∷ v₃ ∷ v₄ ∷ []) ++ rest) (shape 5 1 5) (numbered_of 0) (pos 0) ≡ v₀ ∷ v₁ ∷ v₂ ∷ v₃ ∷ v₄ ∷ []
+example_count : length (pixels (shape 5 1 5) (numbered_of 0) (pos 0)) ≡ 5
 unfolding tables.each lines.r
-example_line v₀ v₁ v₂ v₃ v₄ rest = refl
+example_count = refl
+
+example_line : (rest : List ℕ) → line_read (line ++ rest) (shape 5 1 5) (numbered_of 0) (pos 0) ≡ line
+unfolding tables.each lines.r
+example_line rest = refl
 
 module _ {px px' buf buf' out out' : List ℕ} {r : Input} {b : Answer} {n : ℕ} where
   pub example_stretches_lem : ReadsInput example_input px px' r → 5 ≤ length px
       → Gathers px' (shape r.width r.height r.width) (numbered_of r.direction) (pos 0) buf buf' b → b.number ≡ 0
       → PrintsLine (pos 0) (take b.figure buf') out out' n → length example_stretches ≤ length out
       → (out' ≡ front example_stretches out) × (n ≡ length example_stretches)
-  example_stretches_lem p room q y w fit = example_line-text (gathered p example_given room (example_line 3 5 5 2 4 (drop 5 px)) refl q y w) fit
-
-  pub example_stretches16_lem : ReadsInput example_input16 px px' r → 5 ≤ length px
-      → Gathers px' (shape r.width r.height r.width) (numbered_of r.direction) (pos 0) buf buf' b → b.number ≡ 0
-      → PrintsLine (pos 0) (take b.figure buf') out out' n → length example_stretches16 ≤ length out
-      → (out' ≡ front example_stretches16 out) × (n ≡ length example_stretches16)
-  example_stretches16_lem p room q y w fit = example_line_text16 (gathered p example_given16 room (example_line 256 65535 65535 100 300 (drop 5 px)) refl q y w) fit
+  example_stretches_lem p room q y w fit =
+      let read = given_input p example_given room in
+      let of-frame : Gathers px' (shape 5 1 5) (numbered_of 0) (pos 0) buf buf' b =
+      subst (λ (r : Input). Gathers px' (shape r.width r.height r.width) (numbered_of r.direction) (pos 0) buf buf' b) read.0 q in
+      let g : Gathers (line ++ drop 5 px) (shape 5 1 5) (numbered_of 0) (pos 0) buf buf' b =
+      subst (λ (f : List ℕ). Gathers f (shape 5 1 5) (numbered_of 0) (pos 0) buf buf' b) read.1 of-frame in
+      let s = gather_settled g in
+      let five : b.figure ≡ 5 = ap (λ (a : Answer). a.figure) (s.done_if (s.only_if y)) ∙ example_count in
+      let stored : buf' ≡ front line buf =
+      g.written ∙ after-done b (front (line_read (line ++ drop 5 px) (shape 5 1 5) (numbered_of 0) (pos 0)) buf) buf y ∙ ap (λ (l : List ℕ). front l buf) (example_line (drop 5 px)) in
+      let taken : take b.figure buf' ≡ line = ap₂ (λ (n : ℕ) (l : List ℕ). take n l) five stored in
+      example_line-text (subst (λ (l : List ℕ). PrintsLine (pos 0) l out out' n) taken w) fit

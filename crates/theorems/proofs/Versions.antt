@@ -9,9 +9,6 @@
 --   second_unseen, second_misnamed, half_written    too short a destination for the directions: a done call, another number or figure, the brightness written
 --   first-row_only, first-line_only   a frame opening that treats its first line and copies the rest, along and on the diagonal
 --   count_invented, whole-line_only   a listing with an invented count, or with only the whole line
---   low_byte_alone, level-clipped     levels above 255 of which the low byte alone is taken, or that are taken as 255: of an opening; low_byte_listed, level-clipped-listed of a listing;
---                                     level-clipped-summed of size sums
---   source_in_bytes, room_in_bytes    figures of the rules 5 and 6 that count two bytes a pixel
 --   longest_encloser, next_whatever, own-place, from_one    a fifth number that is the place of the longest encloser, of the next record whatever it is, of the record itself, or
 --                                     is counted from 1
 --   enclosers_unwritten, enclosers_reversed    the call `enclosers` where it writes no place, or the places in the opposite order
@@ -23,8 +20,6 @@
 --   frame-by-pixels, line-by-length   a slanted frame opened with as many pixels as the length says; a line opened with fewer
 --   rest-by-pixels, shared-twice      a frame's rest from K+1 pixels; two lengths that share a count both getting the light
 --   leading_zero                      a reading that takes a number with a leading zero
---   level_unasked, third_eight        one that takes the level 256 without a third field, or a third field 8
---   level-clipped-read, low_byte_read one that makes 255 of every level above, or takes the low byte of each
 -- Assumes nothing.
 use mathlib.Core.Path.{◌≡◌, refl, sym, ap, ◌∙◌}
 use mathlib.Core.Bool.{true}
@@ -67,29 +62,29 @@ use Rattle.bright.specs.Stretches.{stretches}
 use Rattle.bright.specs.Nesting as nesting
 use Rattle.bright.specs.Nesting.{records, NestsLine}
 use Rattle.bright.specs.Listing.{ListsLine}
-use Rattle.sizes.specs.Sums.{line_sums, frame_sums}
+use Rattle.sizes.specs.Sums.{frame_sums}
 use Rattle.sizes.specs.Line.{SumsLine}
 use Rattle.sizes.specs.Frame.{SumsFrame}
 use Rattle.sizes.specs.Rose.{rose_rules, refused_rose, Roses}
-use Rattle.summary.specs.declared.Summary.{Summary}
-use Rattle.summary.specs.Summary.{weighted, summary_of}
+use Rattle.sizes.specs.declared.summary.Summary.{Summary}
+use Rattle.sizes.specs.Summary.{weighted, summary_of}
 use Rattle.text.specs.declared.input.Input.{Input}
 use Rattle.text.specs.Decimal.{digits}
 use Rattle.text.specs.Lines.{fields_text}
 use Rattle.text.specs.Reading as reading
-use Rattle.text.specs.Inputs.{bits_of, size_of, head_of, rows_in, ReadsInput}
+use Rattle.text.specs.Inputs.{head_of, ReadsInput}
 use Rattle.text.specs.Sums.{sums_text, WritesSums}
 use Rattle.theorems.specs.Marked.{line, s}
-use Rattle.theorems.specs.Texts.{example_input, example_input16}
+use Rattle.theorems.specs.Texts.{example_input}
 
--- five pixels that a call may write to, and scratch for a line of five pixels
+-- five bytes that a call may write to, and scratch for a line of five pixels
 abbrev nines : List ℕ
 nines = 9 ∷ 9 ∷ 9 ∷ 9 ∷ 9 ∷ []
 
 abbrev spare : List ℕ
 spare = replicate 40 0
 
--- a frame of 3 by 3 pixels, its rows 4 pixels apart, with a strand from corner to corner; 7 between the rows
+-- a frame of 3 by 3 pixels, its rows 4 bytes apart, with a strand from corner to corner; 7 between the rows
 abbrev small : Shape
 small = shape 3 3 4
 
@@ -184,7 +179,7 @@ unfolding tables.each sums_text fields_text digits
 refusing_sums-text p = answered p.answers refl
 
 pub refusing_read_input : {g' : List ℕ} {r : Input} → ReadsInput example_input nines g' r → Refused r.answer → ⊥
-unfolding head_of size_of bits_of reading.number_on reading.number_of reading.field_of reading.fields_of reading.line_of reading.rows_of
+unfolding head_of reading.number_on reading.number_of reading.field_of reading.fields_of reading.line_of reading.rows_of
 refusing_read_input p = answered (ap (λ (r : Input). r.answer) p.reads) refl
 
 -- ---- 'an opening that is 0 everywhere, or that copies its source (demand 2); one that writes no pixel (demand 2)', of a line
@@ -260,7 +255,7 @@ module _ {other t' : List ℕ} {a : Answer} where
 -- ---- 'one call with two destinations'
 
 module _ {g' h' t' : List ℕ} {a : Answer} where
-  -- place 3 stands between two rows
+  -- byte 3 stands between two rows
   pub gap_numbered : {i j k : ℕ} → FindsHighest strand small 3 sixes g' sixes (i ∷ j ∷ k ∷ 0 ∷ h') spare t' a → ⊥
   gap_numbered p = let between : ◌≡◌ {A = ℕ} 0 8 = (p.directions (done-number p.answers)).gaps 3 (λ x y wide high e. omega arith) in omega (arith, between)
 
@@ -268,7 +263,7 @@ module _ {g' h' t' : List ℕ} {a : Answer} where
   pub frame_asked : FindsHighest strand small 3 sixes g' sixes h' (take 24 spare) t' a → a.number ≡ 7 → ⊥
   frame_asked p seven = let none : ◌≡◌ {A = ℕ} 7 0 = sym seven ∙ done-number p.answers in omega (arith, none)
 
--- the frame needs 11 pixels, and the directions' destination has 10
+-- the frame needs 11 bytes, and the directions' destination has 10
 module _ {g' h' t' : List ℕ} {a : Answer} where
   pub second_unseen : FindsHighest strand small 3 sixes g' (take 10 sixes) h' spare t' a → a.number ≡ 0 → ⊥
   second_unseen p z = let six : ◌≡◌ {A = ℕ} 0 6 = sym z ∙ ap (λ (a : Answer). a.number) p.answers in omega (arith, six)
@@ -300,51 +295,6 @@ pub whole-line_only : {e : ℕ} {rest : List Nested} {t' : List ℕ} {a : Answer
 whole-line_only p =
     let first : ◌≡◌ {A = ℕ} 0 1 = ap (λ (l : List Nested). (get_or l 0 (s 0 0 0 0 0)).stretch.start) (listed-line p) in
     omega (arith, first)
-
--- ---- 'levels 0 to 65,535', 'with stride, size and need counted in pixels'
-
--- two strands of level 300, whose low byte is 44, with a pixel of 44 between them
-abbrev glare : List ℕ
-glare = 300 ∷ 300 ∷ 44 ∷ 300 ∷ 300 ∷ []
-
-opened-glare : {g' t' : List ℕ} {a : Answer} → OpensLine glare 2 nines g' spare t' a → g' ≡ glare
-unfolding tables.each extremes.least extremes.greatest windows.opened
-opened-glare p = p.written ∙ ap (λ (a : Answer). after a (front (opened glare 2) nines) nines) p.answers
-
-listed-glare : {table' : List Nested} {t' : List ℕ} {a : Answer} → ListsLine glare blank table' spare t' a
-    → (get_or table' 0 (s 0 0 0 0 0)).stretch.level ≡ 300
-unfolding tables.each extremes.least extremes.greatest stretching.level_of stretching.is_stretch stretching.stretch_of stretching.ending_at stretching.stretches nesting.shortest nesting.records
-listed-glare p =
-    ap (λ (l : List Nested). (get_or l 0 (s 0 0 0 0 0)).stretch.level)
-    (p.written ∙ ap (λ (a : Answer). after a (front (records (stretches glare)) blank) blank) p.answers)
-
-module _ {rest t' : List ℕ} {a : Answer} where
-  pub low_byte_alone : OpensLine glare 2 nines (44 ∷ rest) spare t' a → ⊥
-  low_byte_alone p = differ 0 (λ e. omega arith) (opened-glare p)
-
-  pub level-clipped : OpensLine glare 2 nines (255 ∷ rest) spare t' a → ⊥
-  level-clipped p = differ 0 (λ e. omega arith) (opened-glare p)
-
-  -- the four bright pixels have 4·(300 − 44) of the light in the bin of length 2, and 4·(255 − 44) where they are clipped
-  pub level-clipped-summed : SumsLine glare nines (0 ∷ 844 ∷ rest) spare t' a → ⊥
-  unfolding tables.each extremes.least extremes.greatest extremes.total windows.opened
-  level-clipped-summed p =
-      differ 1 (λ e. omega arith) (p.written ∙ ap (λ (a : Answer). after a (line_sums glare 4) nines) p.answers)
-
-module _ {e : ℕ} {rest : List Nested} {t' : List ℕ} {a : Answer} where
-  pub low_byte_listed : ListsLine glare blank (s 0 2 44 44 e ∷ rest) spare t' a → ⊥
-  low_byte_listed p = let level : ◌≡◌ {A = ℕ} 44 300 = listed-glare p in omega (arith, level)
-
-  pub level-clipped-listed : ListsLine glare blank (s 0 2 255 44 e ∷ rest) spare t' a → ⊥
-  level-clipped-listed p = let level : ◌≡◌ {A = ℕ} 255 300 = listed-glare p in omega (arith, level)
-
--- the frame needs 11 pixels
-module _ {g' t' : List ℕ} {a : Answer} where
-  pub source_in_bytes : OpensFrame (take 10 strand) small diagonal 3 sixes g' spare t' a → a ≡ refusal 5 22 → ⊥
-  source_in_bytes p e = let figure : ◌≡◌ {A = ℕ} 22 11 = ap (λ (a : Answer). a.figure) (sym e ∙ p.answers) in omega (arith, figure)
-
-  pub room_in_bytes : OpensFrame strand small diagonal 3 (take 10 sixes) g' spare t' a → a ≡ refusal 6 22 → ⊥
-  room_in_bytes p e = let figure : ◌≡◌ {A = ℕ} 22 11 = ap (λ (a : Answer). a.figure) (sym e ∙ p.answers) in omega (arith, figure)
 
 -- ---- 'exactly one value is right for each record'
 
@@ -480,35 +430,7 @@ module _ {t' : List ℕ} {a : Answer} where
 
 -- the example's input with the direction number 00
 pub leading_zero : {g' : List ℕ} {r : Input} → ReadsInput (68 ∷ 9 ∷ 48 ∷ drop 2 example_input) nines g' r → r.answer.number ≡ 0 → ⊥
-unfolding head_of size_of bits_of reading.number_on reading.number_of reading.field_of reading.fields_of reading.line_of reading.rows_of
+unfolding head_of reading.number_on reading.number_of reading.field_of reading.fields_of reading.line_of reading.rows_of
 leading_zero p z =
     let nine : ◌≡◌ {A = ℕ} 0 9 = sym z ∙ ap (λ (r : Input). r.answer.number) p.reads in
     omega (arith, nine)
-
--- ---- 'pixels to 65,535 when the `F` line has a third field 16; without it 255 remains the limit'; 'a third field other than 16 is 9'
-
-module _ {g' : List ℕ} {r : Input} where
-  -- D 0, F 1 1, R 256
-  pub level_unasked : ReadsInput (68 ∷ 9 ∷ 48 ∷ 10 ∷ 70 ∷ 9 ∷ 49 ∷ 9 ∷ 49 ∷ 10 ∷ 82 ∷ 9 ∷ 50 ∷ 53 ∷ 54 ∷ 10 ∷ []) nines g' r → r.answer.number ≡ 0 → ⊥
-  unfolding head_of size_of bits_of reading.number_on reading.number_of reading.field_of reading.fields_of reading.line_of reading.rows_of
-  level_unasked p z =
-      let nine : ◌≡◌ {A = ℕ} 0 9 = sym z ∙ ap (λ (r : Input). r.answer.number) p.reads in
-      omega (arith, nine)
-
-  -- D 0, F 1 1 8, R 7
-  pub third_eight : ReadsInput (68 ∷ 9 ∷ 48 ∷ 10 ∷ 70 ∷ 9 ∷ 49 ∷ 9 ∷ 49 ∷ 9 ∷ 56 ∷ 10 ∷ 82 ∷ 9 ∷ 55 ∷ 10 ∷ []) nines g' r → r.answer.number ≡ 0 → ⊥
-  unfolding head_of size_of bits_of reading.number_on reading.number_of reading.field_of reading.fields_of reading.line_of reading.rows_of
-  third_eight p z =
-      let nine : ◌≡◌ {A = ℕ} 0 9 = sym z ∙ ap (λ (r : Input). r.answer.number) p.reads in
-      omega (arith, nine)
-
--- what the contract asks for, of an input with the levels 256, 65535, 65535, 100 and 300
-read-sixteen : {g' : List ℕ} {r : Input} → ReadsInput example_input16 nines g' r → g' ≡ 256 ∷ 65535 ∷ 65535 ∷ 100 ∷ 300 ∷ []
-unfolding head_of size_of bits_of reading.number_on reading.number_of reading.field_of reading.fields_of reading.line_of reading.rows_of
-read-sixteen p = p.written ∙ ap (λ (r : Input). after r.answer (front (rows_in example_input16).values nines) nines) p.reads
-
-pub level-clipped-read : {r : Input} → ReadsInput example_input16 nines (255 ∷ 255 ∷ 255 ∷ 100 ∷ 255 ∷ []) r → ⊥
-level-clipped-read p = let first : ◌≡◌ {A = ℕ} 255 256 = ap (λ (l : List ℕ). get_or l 0 0) (read-sixteen p) in omega (arith, first)
-
-pub low_byte_read : {r : Input} → ReadsInput example_input16 nines (0 ∷ 255 ∷ 255 ∷ 100 ∷ 44 ∷ []) r → ⊥
-low_byte_read p = let first : ◌≡◌ {A = ℕ} 0 256 = ap (λ (l : List ℕ). get_or l 0 0) (read-sixteen p) in omega (arith, first)

@@ -6,7 +6,7 @@
 --   StandsFor d L k       the length L stands for k pixels in the direction d
 --   OnItsLine sh d x y j  pixel (x, y) is number j of its own line
 --   OpenedOn f sh d k x y v    v is pixel (x, y) of the frame f opened in direction d with windows of k pixels
---   PartOf bytes src from n part    part is the n pixels of the slice src from pixel `from` on, themselves: in the same memory, at the same place there, where a pixel has so many bytes
+--   PartOf src from n part    part is the n bytes of the slice src from byte `from` on, themselves: in the same memory, at the same place there
 --   Highest F v           v is the greatest of F at the sixteen direction numbers
 --   Leads F n             n is the lowest direction number at which F is greatest
 -- Laws: theorems/proofs/Openings.
@@ -56,12 +56,12 @@ pub record OpenedOn (f : List ℕ) (sh : Shape) (d : Direction) (k x y v : ℕ) 
   pub stands : OnItsLine sh d x y j
   pub opens : Opens (line_read f sh d (line_of d x y)) k j v
 
--- 'the W bytes themselves in the caller's slice', or pixels of more bytes than one
-pub record PartOf (bytes : ℕ) (src : Bor (List ℕ)) (from n : ℕ) (part : Bor (List ℕ)) : Type 0 where
+-- 'the W bytes themselves in the caller's slice'
+pub record PartOf (src : Bor (List ℕ)) (from n : ℕ) (part : Bor (List ℕ)) : Type 0 where
   pub memory : part.ref_ptr.0 ≡ src.ref_ptr.0
-  pub begins : part.ref_ptr.1 ≡ src.ref_ptr.1 + from * bytes
+  pub begins : part.ref_ptr.1 ≡ src.ref_ptr.1 + from
   pub size : length part.now ≡ n
-  pub pixels : (x : ℕ) → x < n → get_or part.now x 0 ≡ get_or src.now (from + x) 0
+  pub bytes : (x : ℕ) → x < n → get_or part.now x 0 ≡ get_or src.now (from + x) 0
 
 -- 'the highest over sixteen directions'
 pub record Highest (F : ℕ → ℕ) (v : ℕ) : Type 0 where

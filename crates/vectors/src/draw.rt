@@ -1,21 +1,15 @@
 // The generator that both sides have: what the buffers of a case hold before the call, and the checksums of what they hold after it.
 ghost use Rattle.std.specs.Prelude.{◌≤◌};
 
-use crate::{LEVELS, Pixel};
-
-// xorshift64: no two states have the same next one, so a checksum that goes through it differs wherever just one number does.
+// xorshift64: no two states have the same next one, so a checksum that goes through it differs wherever just one byte does.
 pub(crate) fn step(s: u64) -> u64 {
     let a = s ^ (s << 13);
     let b = a ^ (a >> 7);
     b ^ (b << 17)
 }
 
-fn wide(x: Pixel) -> u64 {
+fn wide(x: u8) -> u64 {
     x as u64
-}
-
-fn wide_byte(byte: u8) -> u64 {
-    byte as u64
 }
 
 fn wide_place(x: u16) -> u64 {
@@ -26,43 +20,22 @@ fn seeded(seed: u64) -> u64 {
     step(std::num::wrapping_add_u64(seed, 88172645463325252))
 }
 
-// The pixel after one of value `last`, from a drawn number: noise, three levels, plateaus, a climb, a fall, or one level.
-// At 16 bits the three levels differ in the low byte alone, those of a climb or a fall in the high byte alone.
+// The pixel after one of value `last`, from a drawn number: noise, three levels, plateaus, a climb, a fall, one level, or white with a black pixel here and there.
 fn pixel(kind: u64, last: u64, drawn: u64) -> u64 {
     match kind {
-        0 => drawn % LEVELS,
-        1 => LEVELS - 256 + drawn % 3,
+        0 => drawn % 256,
+        1 => drawn % 3,
         2 => {
             if drawn % 4 == 0 {
-                drawn / 256 % LEVELS
+                drawn / 256 % 256
             } else {
                 last
             }
         }
-        3 => (last % LEVELS + drawn % 3 * (LEVELS / 256)) % LEVELS,
-        4 => (last % LEVELS + LEVELS - drawn % 3 * (LEVELS / 256)) % LEVELS,
+        3 => (last % 256 + drawn % 3) % 256,
+        4 => (last % 256 + 256 - drawn % 3) % 256,
         5 => last,
-        _ => pixel_of_bytes(kind, last, drawn),
-    }
-}
-
-// Levels that only 16 bits tell apart: 254 to 257; a climb and a fall by at most 2, about 255; a high byte with a low byte that falls as it rises. Any other kind is white, with a black pixel here and there.
-fn pixel_of_bytes(kind: u64, last: u64, drawn: u64) -> u64 {
-    match kind {
-        13 => (254 + drawn % 4) % LEVELS,
-        14 => (last % LEVELS + drawn % 3) % LEVELS,
-        15 => (last % LEVELS + LEVELS - drawn % 3) % LEVELS,
-        16 => (drawn % 256 * 255 + 255) % LEVELS,
-        _ => { if drawn % 8 == 0 { 0 } else { LEVELS - 1 } }
-    }
-}
-
-// The level that the first pixel follows.
-fn level_before(kind: u64, seed: u64) -> u64 {
-    match kind {
-        14 => 248 + seed % 8,
-        15 => 256 + seed % 8,
-        _ => seed % LEVELS,
+        _ => { if drawn % 8 == 0 { 0 } else { 255 } }
     }
 }
 
@@ -73,39 +46,27 @@ pub(crate) fn least(a: usize, b: usize) -> usize
     if a < b { a } else { b }
 }
 
-// Fills the first n pixels of a buffer with those of a kind.
-pub(crate) fn fill(pixels: &mut [Pixel], n: usize, kind: u64, seed: u64) {
-    let end = least(n, pixels.len());
+// Fills the first n bytes of a buffer with pixels of a kind.
+pub(crate) fn fill(buf: &mut [u8], n: usize, kind: u64, seed: u64) {
+    let end = least(n, buf.len());
     let mut s = seeded(seed);
-    let mut last = level_before(kind, seed);
+    let mut last = seed % 256;
     let mut i = 0;
     while i < end {
         s = step(s);
         last = pixel(kind, last, s);
-        pixels[i] = (last % LEVELS) as Pixel;
+        buf[i] = (last % 256) as u8;
         i += 1;
     }
 }
 
-// Fills the first n bytes with noise.
-pub(crate) fn fill_bytes(scratch: &mut [u8], n: usize, seed: u64) {
-    let end = least(n, scratch.len());
-    let mut s = seeded(seed);
-    let mut i = 0;
-    while i < end {
-        s = step(s);
-        scratch[i] = (s % 256) as u8;
-        i += 1;
-    }
-}
-
-// Fills a text from `from` to `to`, each byte with the one `period` before it.
-pub(crate) fn repeat(text: &mut [u8], from: usize, to: usize, period: usize) {
-    let end = least(to, text.len());
+// Fills the bytes from `from` to `to`, each with the one `period` before it.
+pub(crate) fn repeat(buf: &mut [u8], from: usize, to: usize, period: usize) {
+    let end = least(to, buf.len());
     let mut i = from;
     while i < end {
         let back = least(period, i);
-        text[i] = text[i - back];
+        buf[i] = buf[i - back];
         i += 1;
     }
 }
@@ -185,26 +146,13 @@ pub(crate) fn mixed(check: u64, x: u64) -> u64 {
     step(std::num::wrapping_add_u64(check, x))
 }
 
-// The checksum of the first n pixels.
-pub(crate) fn check_pixels(pixels: &[Pixel], n: usize) -> u64 {
-    let end = least(n, pixels.len());
-    let mut check = 1;
-    let mut i = 0;
-    while i < end {
-        check = mixed(check, wide(pixels[i]));
-        i += 1;
-    }
-    check
-}
-
 // The checksum of the bytes from `from` to `to`, after that of others.
-pub(crate) fn check_bytes(before: u64, scratch: &[u8], from: usize, to: usize) -> u64 {
-    let end = least(to, scratch.len());
+pub(crate) fn check_bytes(before: u64, buf: &[u8], from: usize, to: usize) -> u64 {
+    let end = least(to, buf.len());
     let mut check = before;
     let mut i = from;
     while i < end {
-        let byte = scratch[i];
-        check = mixed(check, wide_byte(byte));
+        check = mixed(check, wide(buf[i]));
         i += 1;
     }
     check
@@ -222,10 +170,10 @@ pub(crate) fn check_sums(before: u64, sums: &[u64], n: usize) -> u64 {
     check
 }
 
-// The checksum of the first n places, after that of others.
-pub(crate) fn check_places(before: u64, places: &[u16], n: usize) -> u64 {
+// The checksum of the first n places.
+pub(crate) fn check_places(places: &[u16], n: usize) -> u64 {
     let end = least(n, places.len());
-    let mut check = before;
+    let mut check = 1;
     let mut i = 0;
     while i < end {
         check = mixed(check, wide_place(places[i]));

@@ -1,6 +1,5 @@
 // The calls on a frame, on its shape and on a direction.
-use crate::Pixel;
-use crate::draw::{check_pixels, mixed};
+use crate::draw::{check_bytes, mixed};
 use crate::got::{Got, answered, bits, flag, nothing};
 use crate::input::Case;
 use frame::{Direction, Shape};
@@ -18,12 +17,12 @@ pub(crate) fn direction_of(c: Case) -> Direction {
 }
 
 // The lent row's length and checksum.
-fn row(src: &[Pixel], shape: Shape, y: usize) -> Got {
+fn row(src: &[u8], shape: Shape, y: usize) -> Got {
     let part = gathering::row(src, shape, y);
     Got {
         number: 0,
         figure: part.len() as u64,
-        first: check_pixels(part, part.len()),
+        first: check_bytes(1, part, 0, part.len()),
         second: 0,
     }
 }
@@ -62,7 +61,7 @@ fn numbered(n: usize) -> Got {
 fn measures(shape: Shape) -> Got {
     Got {
         number: flag(shape.is_frame()),
-        figure: shape.needed() as u64,
+        figure: shape.bytes() as u64,
         first: 0,
         second: 0,
     }
@@ -93,7 +92,7 @@ fn pixels(d: Direction, length: usize) -> Got {
 }
 
 // What needs no buffer, or only the source.
-fn lookup(c: Case, src: &[Pixel]) -> Got {
+fn lookup(c: Case, src: &[u8]) -> Got {
     let which = c.call;
     let shape = shape_of(c);
     let d = direction_of(c);
@@ -108,13 +107,7 @@ fn lookup(c: Case, src: &[Pixel]) -> Got {
     }
 }
 
-fn openings(
-    c: Case,
-    src: &[Pixel],
-    dst: &mut [Pixel],
-    directions: &mut [u8],
-    scratch: &mut [u8],
-) -> Got {
+fn openings(c: Case, src: &[u8], dst: &mut [u8], directions: &mut [u8], scratch: &mut [u8]) -> Got {
     let which = c.call;
     let shape = shape_of(c);
     let d = direction_of(c);
@@ -129,8 +122,8 @@ fn openings(
 
 pub(crate) fn call(
     c: Case,
-    src: &[Pixel],
-    dst: &mut [Pixel],
+    src: &[u8],
+    dst: &mut [u8],
     directions: &mut [u8],
     scratch: &mut [u8],
 ) -> Got {

@@ -74,16 +74,15 @@ fn bits(size: u64, minus: bool) -> u64 {
 }
 
 // The number that starts at `from`, and where the next one starts.
-fn number(file: &[u8], from: usize) -> Found {
+fn number(text: &[u8], from: usize) -> Found {
     let mut so_far = Reading {
         size: 0,
         minus: false,
         over: false,
     };
     let mut at = from;
-    while at < file.len() {
-        let byte = file[at];
-        so_far = read(so_far, byte);
+    while at < text.len() {
+        so_far = read(so_far, text[at]);
         at += 1;
         if so_far.over {
             break;
@@ -96,11 +95,11 @@ fn number(file: &[u8], from: usize) -> Found {
 }
 
 // Reads the numbers of the case that starts at `from`, and hands back where the next one starts.
-pub(crate) fn numbers(file: &[u8], from: usize, fields: &mut [u64; 14]) -> usize {
+pub(crate) fn numbers(text: &[u8], from: usize, fields: &mut [u64; 14]) -> usize {
     let mut at = from;
     let mut i = 0;
     while i < FIELDS {
-        let n = number(file, at);
+        let n = number(text, at);
         fields[i] = n.bits;
         at = n.next;
         i += 1;
@@ -108,15 +107,15 @@ pub(crate) fn numbers(file: &[u8], from: usize, fields: &mut [u64; 14]) -> usize
     at
 }
 
-// Reads n bytes that a case has behind its numbers to the front of a text, and hands back where the next case starts.
-pub(crate) fn bytes(file: &[u8], from: usize, n: usize, text: &mut [u8]) -> usize {
-    let end = least(n, text.len());
+// Reads n bytes that a case has behind its numbers to the front of a buffer, and hands back where the next case starts.
+pub(crate) fn bytes(text: &[u8], from: usize, n: usize, buf: &mut [u8]) -> usize {
+    let end = least(n, buf.len());
     let mut at = from;
     let mut i = 0;
     while i < end {
-        let found = number(file, at);
-        text[i] = (found.bits % 256) as u8;
-        at = found.next;
+        let byte = number(text, at);
+        buf[i] = (byte.bits % 256) as u8;
+        at = byte.next;
         i += 1;
     }
     at

@@ -1,5 +1,4 @@
 // The calls of size sums, and the summary.
-use crate::Pixel;
 use crate::draw::mixed;
 use crate::frames::{direction_of, shape_of};
 use crate::got::{Got, answered, nothing};
@@ -30,7 +29,7 @@ fn check_rose(rose: &[[u64; 33]; 16]) -> u64 {
 }
 
 // The rose's checksum, with the answer for the same frame and scratch.
-fn rose(src: &[Pixel], shape: Shape, scratch: &mut [u8]) -> Got {
+fn rose(src: &[u8], shape: Shape, scratch: &mut [u8]) -> Got {
     let rose = sizes::rose(src, shape, scratch);
     let a = sizes::rose_refusal(src, shape, scratch);
     Got {
@@ -47,7 +46,7 @@ fn pattern(x: f64) -> u64 {
 }
 
 fn summary(sums: &[u64]) -> Got {
-    let s = summary::summarize(sums);
+    let s = sizes::summarize(sums);
     Got {
         number: s.number as u64,
         figure: 0,
@@ -56,7 +55,7 @@ fn summary(sums: &[u64]) -> Got {
     }
 }
 
-pub(crate) fn call(c: Case, src: &[Pixel], sums: &mut [u64], scratch: &mut [u8]) -> Got {
+pub(crate) fn call(c: Case, src: &[u8], sums: &mut [u64], scratch: &mut [u8]) -> Got {
     let which = c.call;
     let shape = shape_of(c);
     match which {

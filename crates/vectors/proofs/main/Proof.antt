@@ -1,4 +1,4 @@
--- The file is lent as far as it was read, and that is no further than its array goes. The array is too long for a search, which would count its bytes one by one.
+-- The text is lent as far as it was read, and that is no further than its array goes. The array is too long for a search, which would count its bytes one by one.
 use Rattle.std.proofs.Common.{ℕ, sym, rules}
 use lib.ListN.{length-replicate}
 use Rattle.vectors.proofs.main.Statement.{statement}
@@ -10,8 +10,8 @@ slice-aggregate-read-full c = sym (length-replicate {0} {A = ℕ} 1048576 0)
 read-full-requires : tie.Need-read-full-requires
 read-full-requires c κs = search rules
 
-array-share-prefix-file : tie.Need-array-share-prefix-file
-array-share-prefix-file c = c.before.read-full.ensures.0
+array-share-prefix-text : tie.Need-array-share-prefix-text
+array-share-prefix-text c = c.before.read-full.ensures.0
 
 slice-aggregate-lend : tie.Need-slice-aggregate-lend
 slice-aggregate-lend c = c.before.before.read-full.ensures.1
@@ -28,7 +28,7 @@ main_spec =
     (tie.spec
     slice-aggregate-read-full
     read-full-requires
-    array-share-prefix-file
+    array-share-prefix-text
     slice-aggregate-lend
     lend-requires
     returns)

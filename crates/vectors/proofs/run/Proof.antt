@@ -4,10 +4,10 @@ use Rattle.vectors.proofs.run.Statement.{statement}
 use Rattle.vectors.proofs.run.Tie as tie
 
 abbrev invariant-loop : tie.invariant-loop
-invariant-loop file src₀ dst₀ directions₀ sums₀ scratch₀ text₀ fields₀ at₀ k₀ src dst directions sums scratch text fields at k = (length src ≡ length src₀) × (length dst ≡ length dst₀) × (length directions ≡ length directions₀) × (length sums ≡ length sums₀) × (length scratch ≡ length scratch₀) × (length text ≡ length text₀)
+invariant-loop text src₀ dst₀ directions₀ sums₀ scratch₀ fields₀ at₀ k₀ src dst directions sums scratch fields at k = (length src ≡ length src₀) × (length dst ≡ length dst₀) × (length directions ≡ length directions₀) × (length sums ≡ length sums₀) × (length scratch ≡ length scratch₀)
 
 abbrev decreases-loop : tie.decreases-loop
-decreases-loop file src₀ dst₀ directions₀ sums₀ scratch₀ text₀ fields₀ at₀ k₀ src dst directions sums scratch text fields at k = 100000 - k
+decreases-loop text src₀ dst₀ directions₀ sums₀ scratch₀ fields₀ at₀ k₀ src dst directions sums scratch fields at k = 100000 - k
 
 loop-holds : tie.Need-loop-init invariant-loop decreases-loop
 loop-holds c = search rules
@@ -69,12 +69,6 @@ same-length-9 c = search rules
 same-length-10 : tie.Need-same-length-10 invariant-loop decreases-loop
 same-length-10 c = search rules
 
-same-length-11 : tie.Need-same-length-11 invariant-loop decreases-loop
-same-length-11 c = search rules
-
-same-length-12 : tie.Need-same-length-12 invariant-loop decreases-loop
-same-length-12 c = search rules
-
 returns-2 : tie.Need-returns-2 invariant-loop decreases-loop
 returns-2 c = search rules
 
@@ -98,12 +92,10 @@ run_spec =
     same-length-3
     same-length-4
     same-length-5
-    same-length-6
     returns
+    same-length-6
     same-length-7
     same-length-8
     same-length-9
     same-length-10
-    same-length-11
-    same-length-12
     returns-2)

@@ -11,8 +11,8 @@ use Rattle.gathering.proofs.cells.cell_of.Tie as tie
 minor-of-requires : tie.Need-minor-of-requires
 minor-of-requires c κs = search rules
 
-place-of-requires : tie.Need-place-of-requires
-place-of-requires c κs =
+byte-of-requires : tie.Need-byte-of-requires
+byte-of-requires c κs =
     let a = c.before.args in
     let pre = c.before.requires in
     (pre.0, pre.1, omega (arith, hits a.s a.u a.i pre.2, c.minor-of.ensures))
@@ -21,7 +21,7 @@ returns : tie.Need-returns
 unfolding sweep.cell
 returns c =
     let a = c.before.before.args in
-    c.place_of.ensures ∙ ap (λ (j : ℕ). a.i * a.s.pace + j * a.s.sidestep) c.before.minor-of.ensures
+    c.byte_of.ensures ∙ ap (λ (j : ℕ). a.i * a.s.pace + j * a.s.sidestep) c.before.minor-of.ensures
 
 pub cell-of-spec : {M : Type 1} → statement M
-cell-of-spec = tie.close (tie.spec minor-of-requires place-of-requires returns)
+cell-of-spec = tie.close (tie.spec minor-of-requires byte-of-requires returns)

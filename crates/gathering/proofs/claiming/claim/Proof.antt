@@ -22,8 +22,8 @@ use Rattle.gathering.proofs.claiming.claim.Tie as tie
 track-of-requires : tie.Need-track-of-requires
 track-of-requires c κs = search rules
 
-needed-requires : tie.Need-needed-requires
-needed-requires c κs = search rules
+bytes-requires : tie.Need-bytes-requires
+bytes-requires c κs = search rules
 
 -- the track of the line's own number
 track-is : (c : tie.After-track-of) → (let a = c.before.before.before.before.args in c.track-of.result ≡ track_of a.shape a.d a.line)
@@ -45,8 +45,8 @@ tracked c =
     let a = c.before.before.before.before.before.before.args in
     subst (Tracks a.shape a.d a.line) (sym (track-is c.before.before)) (track_line a.shape a.d (found c).0 a.line (found c).1)
 
-needed-is : (c : tie.Else1) → c.before.needed.result ≡ needed c.before.before.before.before.before.before.args.shape
-needed-is c = c.before.needed.ensures ∙ needed-by c.before.before.before.before.before.before.args.shape (found c).0.frame
+bytes-are : (c : tie.Else1) → c.before.bytes.result ≡ needed c.before.before.before.before.before.before.args.shape
+bytes-are c = c.before.bytes.ensures ∙ needed-by c.before.before.before.before.before.before.args.shape (found c).0.frame
 
 returns-2 : tie.Need-returns-2
 returns-2 c =
@@ -60,13 +60,13 @@ enough : (c : tie.Else2) → (let a = c.before.before.before.before.before.befor
 enough c = rw (tracked c.before).counted at c.if2.false
 
 room : (c : tie.Else3) → (let a = c.before.before.before.before.before.before.before.before.args in needed a.shape ≤ length a.best.now)
-room c = rw (needed-is c.before.before) at c.if3.false
+room c = rw (bytes-are c.before.before) at c.if3.false
 
 returns-3 : tie.Need-returns-3
 returns-3 c =
     let a = c.before.before.before.before.before.before.before.before.args in
     let ok = (found c.before.before).0 in
-    let short = rw (needed-is c.before.before) at c.if3.true in
+    let short = rw (bytes-are c.before.before) at c.if3.true in
     claim_unfit a.values.now a.number a.shape a.d a.line a.best.now a.holders.now
     (rw (ok.frame, ok.direction, le-leb (length (pixels a.shape a.d a.line)) (length a.values.now) (enough c.before), lt-leb (needed a.shape) (length a.best.now) short))
 
@@ -74,12 +74,12 @@ returns-4 : tie.Need-returns-4
 returns-4 c =
     let a = c.before.before.before.before.before.before.before.before.before.args in
     let ok = (found c.before.before.before).0 in
-    let short = rw (needed-is c.before.before.before) at c.if4.true in
+    let short = rw (bytes-are c.before.before.before) at c.if4.true in
     claim_unfit a.values.now a.number a.shape a.d a.line a.best.now a.holders.now
     (rw (ok.frame, ok.direction, le-leb (length (pixels a.shape a.d a.line)) (length a.values.now) (enough c.before.before), le-leb (needed a.shape) (length a.best.now) (room c.before), lt-leb (needed a.shape) (length a.holders.now) short))
 
 whole : (c : tie.Else4) → (let a = c.before.before.before.before.before.before.before.before.before.args in needed a.shape ≤ length a.holders.now)
-whole c = rw (needed-is c.before.before.before) at c.if4.false
+whole c = rw (bytes-are c.before.before.before) at c.if4.false
 
 sweep-of-requires : tie.Need-sweep-of-requires
 sweep-of-requires c κs = search rules
@@ -112,7 +112,7 @@ claim-spec =
     tie.close
     (tie.spec
     track-of-requires
-    needed-requires
+    bytes-requires
     returns
     returns-2
     returns-3

@@ -42,7 +42,7 @@ cell-of-requires c κs =
     let here = c.loop-test.true in
     (pre.0, omega (arith, pre.4.fits), pre.4.inside (a.t.from + i) (omega arith) (omega arith))
 
--- the place is one of either frame's
+-- the byte is one of either frame's
 reached : (c : tie.After-cell-of invariant-loop decreases-loop) (n : ℕ) → Reach c.before.before.before.before.before.before.args.s n → c.cell-of.result < n
 reached c n reach =
     let a = c.before.before.before.before.before.before.args in
@@ -69,13 +69,13 @@ old-is c =
     (places_fresh a.s a.t.index a.t.from l.i pre.1 pre.4 c.before.loop-test.true)
 
 slice-read-old : tie.Need-slice-read-old invariant-loop decreases-loop
-slice-read-old c = omega (arith, best-reached c.before)
+slice-read-old c = best-reached c.before
 
 shared-slice-read-value : tie.Need-shared-slice-read-value invariant-loop decreases-loop
 shared-slice-read-value c = omega (arith, c.before.before.before.before.before.before.before.before.requires.5, c.before.before.before.loop-test.true)
 
-slice-read-holder : tie.Need-slice-read-holder invariant-loop decreases-loop
-slice-read-holder c = holders-reached c.before.before.before
+slice-read-claimed : tie.Need-slice-read-claimed invariant-loop decreases-loop
+slice-read-claimed c = holders-reached c.before.before.before
 
 claimed-requires : tie.Need-claimed-requires invariant-loop decreases-loop
 claimed-requires c κs = search rules
@@ -87,7 +87,7 @@ brighter-requires : tie.Need-brighter-requires invariant-loop decreases-loop
 brighter-requires c κs = search rules
 
 slice-write-best : tie.Need-slice-write-best invariant-loop decreases-loop
-slice-write-best c = omega (arith, best-reached c.before.before.before.before.before)
+slice-write-best c = best-reached c.before.before.before.before.before
 
 add-i : tie.Need-overflow-add-i invariant-loop decreases-loop
 add-i c = omega (arith, c.before.before.before.before.before.before.before.before.before.before.before.requires.5, c.before.before.before.before.before.before.loop-test.true)
@@ -142,7 +142,7 @@ claim-in-spec =
     cell-of-requires
     slice-read-old
     shared-slice-read-value
-    slice-read-holder
+    slice-read-claimed
     claimed-requires
     slice-write-holders
     brighter-requires

@@ -37,7 +37,7 @@ cell-of-requires c κs =
 shared-slice-read-dst : tie.Need-shared-slice-read-dst invariant-loop decreases-loop
 shared-slice-read-dst c = omega (arith, c.before.before.before.before.before.before.requires.3, c.before.before.loop-test.true)
 
--- the place is one of dst's
+-- the byte is one of dst's
 reached : (c : tie.After-cell-of invariant-loop decreases-loop) → c.cell-of.result < length c.before.before.loop.dst
 reached c =
     let a = c.before.before.before.before.before.args in
@@ -48,7 +48,7 @@ reached c =
     (cell_reach a.s a.t.index (a.t.from + i) (length a.dst.now) (omega (arith, pre.2.fits)) (pre.2.inside (a.t.from + i) (omega arith) (omega arith)) pre.1)
 
 slice-write-dst : tie.Need-slice-write-dst invariant-loop decreases-loop
-slice-write-dst c = omega (arith, reached c.before)
+slice-write-dst c = reached c.before
 
 add-i : tie.Need-overflow-add-i invariant-loop decreases-loop
 add-i c = omega (arith, c.before.before.before.before.before.before.requires.3, c.before.before.loop-test.true)

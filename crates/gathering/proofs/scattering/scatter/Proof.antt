@@ -31,8 +31,8 @@ track-is c = rw (to_z-of_z c.before.before.before.ranges.line) at c.track-of.ens
 is-frame-requires : tie.Need-is-frame-requires
 is-frame-requires c κs = search rules
 
-needed-requires : tie.Need-needed-requires
-needed-requires c κs = search rules
+bytes-requires : tie.Need-bytes-requires
+bytes-requires c κs = search rules
 
 refusal-requires : tie.Need-refusal-requires
 refusal-requires c κs = search rules
@@ -45,10 +45,10 @@ says c =
     let a = c.before.before.before.before.before.before.args in
     let n = c.before.before.before.track-of.result.count in
     let count = ap (λ (t : Track). t.count) (track-is c.before.before.before) in
-    let need : Accepted a.shape a.d → c.before.needed.result ≡ needed a.shape = λ ok. c.before.needed.ensures ∙ needed-by a.shape ok.frame in
+    let bytes : Accepted a.shape a.d → c.before.bytes.result ≡ needed a.shape = λ ok. c.before.bytes.ensures ∙ needed-by a.shape ok.frame in
     c.refusal.ensures
-    ∙ ap (λ (framed : Bool). answer (frame_line_rules framed n (length a.src.now) n (length a.dst.now) c.before.needed.result) n) c.before.before.is-frame.ensures
-    ∙ line-answer a.shape a.d a.line (length a.src.now) (length (pixels a.shape a.d a.line)) (length a.dst.now) (needed a.shape) n n c.before.needed.result count (λ ok counted. (counted, need ok))
+    ∙ ap (λ (framed : Bool). answer (frame_line_rules framed n (length a.src.now) n (length a.dst.now) c.before.bytes.result) n) c.before.before.is-frame.ensures
+    ∙ line-answer a.shape a.d a.line (length a.src.now) (length (pixels a.shape a.d a.line)) (length a.dst.now) (needed a.shape) n n c.before.bytes.result count (λ ok counted. (counted, bytes ok))
 
 returns : tie.Need-returns
 returns c =
@@ -95,7 +95,7 @@ scatter-spec =
     (tie.spec
     track-of-requires
     is-frame-requires
-    needed-requires
+    bytes-requires
     refusal-requires
     returns
     sweep-of-requires

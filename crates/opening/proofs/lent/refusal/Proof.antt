@@ -6,8 +6,8 @@ use borrow.Author.Rules.{rules}
 use Rattle.opening.proofs.lent.refusal.Statement.{statement}
 use Rattle.opening.proofs.lent.refusal.Tie as tie
 
-needed-requires : tie.Need-needed-requires
-needed-requires c κs = search rules
+bytes-requires : tie.Need-bytes-requires
+bytes-requires c κs = search rules
 
 done-requires : tie.Need-done-requires
 done-requires c κs = search rules
@@ -57,14 +57,14 @@ returns c =
       c.before.before.before.before.before.before.before.is-direction.ensures,
       c.before.before.before.before.before.before.before.before.before.is-frame.ensures,
     )
-    (answer-chain (tested_rules a.shape a.d a.length a.size a.room a.spare c.before.before.before.before.before.before.before.before.before.before.before.needed.result c.before.scratch.result) 0 refl)
-    ∙ tested_answer a.shape a.d a.length a.size a.room a.spare c.before.before.before.before.before.before.before.before.before.before.before.needed.ensures c.before.scratch.ensures
+    (answer-chain (tested_rules a.shape a.d a.length a.size a.room a.spare c.before.before.before.before.before.before.before.before.before.before.before.bytes.result c.before.scratch.result) 0 refl)
+    ∙ tested_answer a.shape a.d a.length a.size a.room a.spare c.before.before.before.before.before.before.before.before.before.before.before.bytes.ensures c.before.scratch.ensures
 
 pub refusal-spec : {M : Type 1} → statement M
 refusal-spec =
     tie.close
     (tie.spec
-    needed-requires
+    bytes-requires
     done-requires
     is-frame-requires
     unless-requires

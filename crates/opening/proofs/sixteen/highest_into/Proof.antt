@@ -36,8 +36,8 @@ open-rows-requires c κs =
     let pre = c.before.before.before.before.before.requires in
     (pre.ok.frame, (framed c.before.before.before.before.before.args.shape pre.ok.frame).past, pre.some, pre.source, omega (arith, pre.target))
 
-hold-requires : tie.Need-hold-requires invariant-loop decreases-loop
-hold-requires c κs = (c.before.before.before.before.before.before.before.before.before.requires.ok.frame, omega (arith, c.before.before.before.before.before.before.before.before.before.requires.target))
+blacken-requires : tie.Need-blacken-requires invariant-loop decreases-loop
+blacken-requires c κs = (c.before.before.before.before.before.before.before.before.before.requires.ok.frame, omega (arith, c.before.before.before.before.before.before.before.before.before.requires.target))
 
 loop-holds : tie.Need-loop-init invariant-loop decreases-loop
 loop-holds c =
@@ -49,7 +49,7 @@ loop-holds c =
       refl,
       painted_as _ (painted_stays c.before.before.before.before.before.before.open-rows.ensures)
           (λ x y h l. sym (greatest-one (v x y) ∙ numbered-along a.src.now a.shape pre.ok pre.source a.length pre.some x y h l)),
-      painted_as _ (painted_stays c.before.before.hold.ensures) (λ x y h l. sym (first_one (v x y))),
+      painted_as _ (painted_stays c.before.before.blacken.ensures) (λ x y h l. sym (first_one (v x y))),
     )
 
 numbered-requires : tie.Need-numbered-requires invariant-loop decreases-loop
@@ -67,7 +67,7 @@ ready : (c : tie.After-pixels-for invariant-loop decreases-loop)
 ready c =
     let loop = c.before.before.before.loop in
     ready-numbered c.before.before.before.before.before.before.before.before.before.before.before.before.before.before.before.before.args.shape c.before.before.before.before.before.before.before.before.before.before.before.before.before.before.before.before.args.length _ _ loop.n (omega (arith, c.before.before.loop-test.true)) c.before.numbered.ensures
-    (ap₂ min (loop.invariant.3.same ∙ c.before.before.before.before.before.before.before.before.before.before.open-rows.auto.1.1.1.1.0) (loop.invariant.4.same ∙ c.before.before.before.before.before.before.hold.auto.1.0)) c.before.before.before.before.before.before.before.before.before.before.before.before.before.before.before.before.requires
+    (ap₂ min (loop.invariant.3.same ∙ c.before.before.before.before.before.before.before.before.before.before.open-rows.auto.1.1.1.1.0) (loop.invariant.4.same ∙ c.before.before.before.before.before.before.blacken.auto.1.0)) c.before.before.before.before.before.before.before.before.before.before.before.before.before.before.before.before.requires
 
 claim-by-requires : tie.Need-claim-by-requires invariant-loop decreases-loop
 claim-by-requires c κs = ready-pixels _ _ _ _ _ c.before.before.before.pixels-for.ensures (ready c.before.before.before)
@@ -111,7 +111,7 @@ same_length : tie.Need-same-length invariant-loop decreases-loop
 same_length c = c.before.loop.invariant.3.same ∙ c.before.before.before.before.before.before.before.before.open-rows.auto.1.1.1.1.0
 
 same-length-2 : tie.Need-same-length-2 invariant-loop decreases-loop
-same-length-2 c = c.before.loop.invariant.4.same ∙ c.before.before.before.before.hold.auto.1.0
+same-length-2 c = c.before.loop.invariant.4.same ∙ c.before.before.before.before.blacken.auto.1.0
 
 same-length-3 : tie.Need-same-length-3 invariant-loop decreases-loop
 same-length-3 c = c.before.loop.invariant.2
@@ -123,7 +123,7 @@ returns c =
     let v : ℕ → ℕ → ℕ → ℕ = in_direction a.src.now a.shape a.length in
     let all : loop.n ≡ 16 = omega arith in (
       painted_again c.before.before.before.before.before.before.before.before.open-rows.ensures (painted_as _ loop.invariant.3 (λ x y h l. ap (λ (n : ℕ). greatest (table (v x y) n)) all)),
-      painted_again c.before.before.before.before.hold.ensures (painted_as _ loop.invariant.4 (λ x y h l. ap (first_greatest (v x y)) all)),
+      painted_again c.before.before.before.before.blacken.ensures (painted_as _ loop.invariant.4 (λ x y h l. ap (first_greatest (v x y)) all)),
     )
 
 pub highest-into-spec : {M : Type 1} → statement M
@@ -133,7 +133,7 @@ highest-into-spec =
     invariant-loop
     decreases-loop
     open-rows-requires
-    hold-requires
+    blacken-requires
     loop-holds
     numbered-requires
     pixels-for-requires

@@ -1,4 +1,4 @@
--- Pixel by pixel: what is read is never written, but for the pixel that meets its partner.
+-- Byte by byte: what is read is never written, but for the byte that meets its partner.
 use mathlib.Core.Path.{◌≡◌, ap, ap₂, ◌∙◌}
 use Prim.Native.Nat.{ℕ, ◌+◌, ◌-◌, ◌≤◌}
 use native.Mathlib.Omega.{arith}

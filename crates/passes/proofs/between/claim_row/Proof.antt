@@ -36,11 +36,11 @@ add-value c = search rules
 shared-slice-read-value : tie.Need-shared-slice-read-value invariant-loop decreases-loop
 shared-slice-read-value c = search rules
 
-add-holder : tie.Need-overflow-add-holder invariant-loop decreases-loop
-add-holder c = search rules
+add-claimed : tie.Need-overflow-add-claimed invariant-loop decreases-loop
+add-claimed c = search rules
 
-slice-read-holder : tie.Need-slice-read-holder invariant-loop decreases-loop
-slice-read-holder c = omega (arith, c.before.before.before.before.loop.invariant.2.same)
+slice-read-claimed : tie.Need-slice-read-claimed invariant-loop decreases-loop
+slice-read-claimed c = omega (arith, c.before.before.before.before.loop.invariant.2.same)
 
 claimed-requires : tie.Need-claimed-requires invariant-loop decreases-loop
 claimed-requires c κs = search rules
@@ -106,8 +106,8 @@ claim-row-spec =
     slice-read-old
     add-value
     shared-slice-read-value
-    add-holder
-    slice-read-holder
+    add-claimed
+    slice-read-claimed
     claimed-requires
     add-holders
     slice-write-holders

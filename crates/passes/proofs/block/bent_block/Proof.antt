@@ -23,29 +23,29 @@ loop-holds c = (omega arith, search rules, filled_none _ _ _)
 add-k : tie.Need-overflow-add-k invariant-loop decreases-loop
 add-k c = search rules
 
-shared-slice-read-mark : tie.Need-shared-slice-read-mark invariant-loop decreases-loop
-shared-slice-read-mark c = search rules
-
-add-either : tie.Need-overflow-add-either invariant-loop decreases-loop
-add-either c = search rules
-
-shared-slice-read-either : tie.Need-shared-slice-read-either invariant-loop decreases-loop
-shared-slice-read-either c = search rules
-
-add-either-2 : tie.Need-overflow-add-either-2 invariant-loop decreases-loop
-add-either-2 c = search rules
-
-shared-slice-read-either-2 : tie.Need-shared-slice-read-either-2 invariant-loop decreases-loop
-shared-slice-read-either-2 c = search rules
-
-either-requires : tie.Need-either-requires invariant-loop decreases-loop
-either-requires c κs = search rules
-
 add-of-two : tie.Need-overflow-add-of-two invariant-loop decreases-loop
 add-of-two c = search rules
 
 shared-slice-read-of-two : tie.Need-shared-slice-read-of-two invariant-loop decreases-loop
 shared-slice-read-of-two c = search rules
+
+shared-slice-read-either : tie.Need-shared-slice-read-either invariant-loop decreases-loop
+shared-slice-read-either c = search rules
+
+add-either : tie.Need-overflow-add-either invariant-loop decreases-loop
+add-either c = search rules
+
+shared-slice-read-either-2 : tie.Need-shared-slice-read-either-2 invariant-loop decreases-loop
+shared-slice-read-either-2 c = search rules
+
+add-either-2 : tie.Need-overflow-add-either-2 invariant-loop decreases-loop
+add-either-2 c = search rules
+
+shared-slice-read-either-3 : tie.Need-shared-slice-read-either-3 invariant-loop decreases-loop
+shared-slice-read-either-3 c = search rules
+
+either-requires : tie.Need-either-requires invariant-loop decreases-loop
+either-requires c κs = search rules
 
 of-two-requires : tie.Need-of-two-requires invariant-loop decreases-loop
 of-two-requires c κs = search rules
@@ -64,7 +64,7 @@ loop-again c =
     let a = c.before.before.before.before.before.before.before.before.before.before.args in
     let at = c.before.before.before.before.before.before.before.loop in
     let filled = at.invariant.2 in
-    let read = c.before.before.either.ensures ∙ bent-is a.bends.now a.near a.far a.buf.now (a.i + at.j) in (
+    let read = c.before.either.ensures ∙ bent-is a.bends.now a.near a.far a.buf.now (a.i + at.j) in (
       omega arith,
       search rules,
       filled_more filled (omega arith) (omega (arith, filled.same))
@@ -82,14 +82,14 @@ bent-block-spec =
     decreases-loop
     loop-holds
     add-k
-    shared-slice-read-mark
-    add-either
-    shared-slice-read-either
-    add-either-2
-    shared-slice-read-either-2
-    either-requires
     add-of-two
     shared-slice-read-of-two
+    shared-slice-read-either
+    add-either
+    shared-slice-read-either-2
+    add-either-2
+    shared-slice-read-either-3
+    either-requires
     of-two-requires
     array-write-t
     add-j

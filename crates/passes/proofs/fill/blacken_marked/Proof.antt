@@ -1,4 +1,4 @@
--- The first i pixels are done; what a turn reads of its own pixel is as it was.
+-- The first i bytes are done; what a turn reads of its own byte is as it was.
 use mathlib.Core.Path.{◌≡◌, ap, ap₂, ◌∙◌}
 use mathlib.Core.Bool.{cond}
 use Prim.Native.Nat.{ℕ, ◌+◌, ◌-◌, ◌≤◌}
@@ -20,8 +20,8 @@ decreases-loop buf₀ bends at n i₀ buf i = n - i
 loop-holds : tie.Need-loop-init invariant-loop decreases-loop
 loop-holds c = (search rules, filled_end (filled_none _ _ _) (omega arith))
 
-shared-slice-read-mark : tie.Need-shared-slice-read-mark invariant-loop decreases-loop
-shared-slice-read-mark c = search rules
+shared-slice-read-either : tie.Need-shared-slice-read-either invariant-loop decreases-loop
+shared-slice-read-either c = search rules
 
 add-either : tie.Need-overflow-add-either invariant-loop decreases-loop
 add-either c = search rules
@@ -71,7 +71,7 @@ blacken-marked-spec =
     invariant-loop
     decreases-loop
     loop-holds
-    shared-slice-read-mark
+    shared-slice-read-either
     add-either
     slice-read-either
     either-requires

@@ -1,4 +1,4 @@
--- Pixel by pixel.
+-- Byte by byte.
 use mathlib.Core.Path.{refl}
 use Prim.Native.Nat.{ℕ, ◌-◌, ◌≤◌, zero-le}
 use native.Mathlib.Omega.{arith}

@@ -25,16 +25,16 @@ returns-3 c =
     let direction = sym c.before.before.is-direction.ensures ∙ not-false _ c.before.if2.false in
     rw (frame, direction, lt-leb _ _ c.if3.true)
 
-needed-requires : tie.Need-needed-requires
-needed-requires c κs = search rules
+bytes-requires : tie.Need-bytes-requires
+bytes-requires c κs = search rules
 
 returns-4 : tie.Need-returns-4
 returns-4 c =
     let frame = sym c.before.before.before.before.before.is-frame.ensures ∙ not-false _ c.before.before.before.before.if1.false in
     let direction = sym c.before.before.before.is-direction.ensures ∙ not-false _ c.before.before.if2.false in
-    rw (c.needed.ensures, frame, direction, le-leb _ _ c.before.if3.false)
+    rw (c.bytes.ensures, frame, direction, le-leb _ _ c.before.if3.false)
 
 pub can-open-spec : {M : Type 1} → statement M
 can-open-spec =
     tie.close
-    (tie.spec is-frame-requires returns is-direction-requires returns-2 returns-3 needed-requires returns-4)
+    (tie.spec is-frame-requires returns is-direction-requires returns-2 returns-3 bytes-requires returns-4)

@@ -1,7 +1,7 @@
 -- No window fits, or the erosion and then the dilation of that.
 use native.Mathlib.Omega.{arith}
 use Rattle.frame.specs.Sweep.{shift}
-use Rattle.rows.specs.Rows.{place_of}
+use Rattle.rows.specs.Rows.{byte_of}
 use Rattle.rows.proofs.Lines.{opened-none}
 use Rattle.rows.proofs.Growths.{grown-start, grown-turn, grown-opened}
 use Rattle.rows.proofs.Slants.{cleared_lines}
@@ -19,7 +19,7 @@ returns : tie.Need-returns
 returns c =
     let args = c.before.before.before.before.before.before.before.args in
     let s = args.s in
-    opened-none (shift s) (place_of s) s.minors s.majors _ args.length c.before.before.before.before.if1.true
+    opened-none (shift s) (byte_of s) s.minors s.majors _ args.length c.before.before.before.before.if1.true
     (cleared_lines s c.before.before.before.before.before.before.before.requires.0.next c.before.before.clear-rows.ensures)
 
 slice-aggregate-grow-along : tie.Need-slice-aggregate-grow-along

@@ -1,4 +1,4 @@
--- Rule 1 by itself, since only of what it accepts `needed` hands back what a frame needs; then the others one after the other.
+-- Rule 1 by itself, since only of what it accepts a frame's bytes are those that it needs; then the others one after the other.
 use mathlib.Core.Path.{refl, sym, ◌∙◌}
 use lib.ListN.{drop}
 use borrow.Author.Tests.{not-true, not-false}
@@ -36,8 +36,8 @@ is-outside-requires c κs = search rules
 unless-requires-2 : tie.Need-unless-requires-2
 unless-requires-2 c κs = search rules
 
-needed-requires : tie.Need-needed-requires
-needed-requires c κs = search rules
+bytes-requires : tie.Need-bytes-requires
+bytes-requires c κs = search rules
 
 needing-requires : tie.Need-needing-requires
 needing-requires c κs = search rules
@@ -57,10 +57,10 @@ returns-2 c =
     let framed = directed.before.before.before in
     let args = framed.before.args in
     let frame = sym framed.is-frame.ensures ∙ not-false _ directed.before.before.if1.false in
-    let need = sized.needed.ensures ∙ needed-by args.shape frame in
+    let bytes = sized.bytes.ensures ∙ needed-by args.shape frame in
     let room = rw frame at scratched.scratch.ensures in
     c.needing2.ensures
-    ∙ rw (scratched.before.needing.ensures, sized.before.unless2.ensures, counted.before.unless.ensures, directed.before.done.ensures, room, need, counted.is-outside.ensures, directed.is-direction.ensures, frame)
+    ∙ rw (scratched.before.needing.ensures, sized.before.unless2.ensures, counted.before.unless.ensures, directed.before.done.ensures, room, bytes, counted.is-outside.ensures, directed.is-direction.ensures, frame)
     (answer-chain (drop 1 (frame_rules args.shape args.d args.entries args.size args.spare)) 0 refl)
 
 pub refusal-spec : {M : Type 1} → statement M
@@ -76,7 +76,7 @@ refusal-spec =
     add-is-outside
     is-outside-requires
     unless-requires-2
-    needed-requires
+    bytes-requires
     needing-requires
     scratch-requires
     needing-requires-2

@@ -1,11 +1,9 @@
 -- The lines below u are added up in the slice.
 use mathlib.Core.Path.{◌≡◌, refl, ap, ◌∙◌}
-use Prim.Native.Nat.{◌-◌, ◌≤◌}
+use Prim.Native.Nat.{ℕ, ◌-◌, ◌≤◌}
 use native.Mathlib.Omega.{arith}
-use lib.ListN.{length}
-use Rattle.answer.specs.Limits.{brightest8}
+use lib.ListN.{length, get_or}
 use Rattle.frame.specs.Lines.{line_count}
-use Rattle.sizes.specs.Sums.{Dim}
 use Rattle.sizes.proofs.Calls.{zeros-length}
 use Rattle.sizes.proofs.Gathered.{count-is-lines, Summing, summing_start, summing_more, summing_modest, summing_end}
 use borrow.Author.Rules.{rules}
@@ -49,7 +47,7 @@ add-line-of-requires c κs =
     let lines = count-is-lines sh d ok c.before.before.before.before.before.before.before.before.lines_of.ensures in
     let at = c.before.before.before.loop in
     let known = c.before.before.before.before.before.before.before.before.before.before.before.shared-slice-known.given in
-    let dim : Dim brightest8 src = record { wide = omega arith; levels = λ i. omega (arith, known i) } in (
+    let dim : (i : ℕ) → get_or src i 0 ≤ 255 = λ i. omega (arith, known i) in (
       entry.requires.0,
       omega (arith, lines),
       omega (arith, at.invariant.1, entry.requires.1),

@@ -1,4 +1,4 @@
--- The frame has the line, and an array of 4,096 pixels has room for it.
+-- The frame has the line, and an array of 4,096 bytes has room for it.
 use mathlib.Core.Path.{ap, ◌∙◌}
 use lib.IntN.{ℤ}
 use mir.Syntax.{w64}

@@ -4,10 +4,8 @@ use mathlib.Core.List.{◌∷◌}
 use native.Mathlib.Omega.{arith}
 use lib.ListN.{length}
 use borrow.Author.Tests.{not-true, not-false}
-use Rattle.answer.specs.Limits.{brightest8}
 use Rattle.bright.specs.Generator.{run8, coming}
 use Rattle.bright.proofs.Steps.{coming-beginning, coming-next, coming-none}
-use Rattle.sizes.specs.Sums.{Dim}
 use Rattle.sizes.proofs.Lights.{Adding, adding_start, adding_sound, adding_more, adding_end, adding_modest}
 use borrow.Author.Rules.{rules}
 use Rattle.sizes.proofs.lines.add_line.Statement.{statement}
@@ -60,8 +58,7 @@ add-light-requires c κs =
     let next = c.before.before.before.before.before.next in
     let comes = coming-next next.ensures (not-false _ c.before.if1.false) in
     let adding : Adding line sums (next.result.stretch ∷ _) at.sums = rw comes at at.invariant.1 in
-    let dim : Dim brightest8 line = record { wide = omega arith; levels = λ i. omega (arith, pixel i) } in
-    let modest = adding_modest line sums _ at.sums pre.0 dim pre.3 at.invariant.1 in
+    let modest = adding_modest line sums _ at.sums pre.0 (λ i. omega (arith, pixel i)) pre.3 at.invariant.1 in
     (adding_sound line sums _ _ at.sums adding, omega (arith, at.invariant.1.same, pre.2), modest)
 
 loop-less : tie.Need-loop-smaller invariant-loop decreases-loop

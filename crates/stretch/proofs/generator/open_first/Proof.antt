@@ -28,8 +28,8 @@ shared-slice-read-put c = search rules
 put-requires : tie.Need-put-requires
 put-requires c κs = search rules
 
-add-next : tie.Need-overflow-add-next
-add-next c = search rules
+add-t6 : tie.Need-overflow-add-t6
+add-t6 c = search rules
 
 same_length : tie.Need-same-length
 same_length c = search rules
@@ -54,6 +54,6 @@ open-first-spec =
     cast-put
     shared-slice-read-put
     put-requires
-    add-next
+    add-t6
     same_length
     returns-3)

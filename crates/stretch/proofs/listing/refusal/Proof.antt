@@ -3,11 +3,11 @@ use mathlib.Core.Path.{refl, sym, ◌∙◌}
 use native.Mathlib.Omega.{arith}
 use lib.ListN.{length, drop}
 use borrow.Author.Tests.{le-ltb}
-use Rattle.answer.specs.Limits.{longest, brightest8}
+use Rattle.answer.specs.Limits.{longest}
 use Rattle.answer.proofs.Rules.{answer-chain, outside_not}
 use Rattle.bright.specs.Stretches.{stretches}
 use Rattle.bright.specs.Listing.{list_rules}
-use Rattle.bright.proofs.Counting.{stretches-few, count-all}
+use Rattle.bright.proofs.Counting.{stretches-few}
 use borrow.Author.Rules.{rules}
 use Rattle.stretch.proofs.listing.refusal.Statement.{statement}
 use Rattle.stretch.proofs.listing.refusal.Tie as tie
@@ -52,7 +52,7 @@ returns-3 c =
     let f = args.line.now in
     let pixels = sym c.before.before.before.before.before.before.is-outside.ensures ∙ c.before.before.before.before.before.if1.false in
     c.needing2.ensures
-    ∙ rw (c.before.before.before.needing.ensures, c.before.before.before.before.done.ensures, c.before.count.ensures ∙ count-all brightest8 f (omega (arith, outside_not 1 longest (length f) pixels)), pixels)
+    ∙ rw (c.before.before.before.needing.ensures, c.before.before.before.before.done.ensures, c.before.count.ensures, pixels)
     (answer-chain (drop 1 (list_rules (length f) args.spare args.room (length (stretches f)))) 0 refl)
 
 pub refusal-spec : {M : Type 1} → statement M

@@ -1,8 +1,6 @@
 -- The topmost run is the last of the stack.
-use mathlib.Core.Path.{sym, ap, ◌∙◌}
-use Prim.Native.Nat.{ℕ, suc, ◌%◌}
+use mathlib.Core.Path.{sym, ap}
 use native.Mathlib.Omega.{arith}
-use Rattle.answer.specs.Limits.{brightest8}
 use Rattle.bright.specs.Reading.{top_level}
 use Rattle.bright.specs.Generator.{run8, stack_of}
 use Rattle.bright.proofs.Stack.{stack_top}
@@ -14,47 +12,24 @@ returns : tie.Need-returns
 unfolding stack_of
 returns c = search rules
 
-sub-pair-at : tie.Need-overflow-sub-pair-at
-sub-pair-at c = search rules
+sub-result : tie.Need-overflow-sub-result
+sub-result c = search rules
 
-mul-pair-at : tie.Need-overflow-mul-pair-at
-mul-pair-at c = search rules
-
-add-pair-at : tie.Need-overflow-add-pair-at
-add-pair-at c = search rules
-
-pair-at-requires : tie.Need-pair-at-requires
-pair-at-requires c κs = search rules
-
-cast-result : tie.Need-overflow-cast-result
-cast-result c = search rules
+mul-result : tie.Need-overflow-mul-result
+mul-result c = search rules
 
 add-result : tie.Need-overflow-add-result
 add-result c = search rules
 
-rem-result : tie.Need-nonzero-rem-result
-rem-result c = search rules
-
-cast-result-2 : tie.Need-overflow-cast-result-2
-cast-result-2 c = search rules
+shared-slice-read-result : tie.Need-shared-slice-read-result
+shared-slice-read-result c = search rules
 
 returns-2 : tie.Need-returns-2
 returns-2 c =
-    let a = c.before.before.before.args in
-    ap (λ (level : ℕ). level % suc brightest8) c.pair-at.ensures
-    ∙ sym (ap top_level (stack_top run8 a.scratch.now a.depth (omega arith)))
+    let a = c.before.before.args in
+    sym (ap top_level (stack_top run8 a.scratch.now a.depth (omega arith)))
 
 pub top-level-spec : {M : Type 1} → statement M
 top-level-spec =
     tie.close
-    (tie.spec
-    returns
-    sub-pair-at
-    mul-pair-at
-    add-pair-at
-    pair-at-requires
-    cast-result
-    add-result
-    rem-result
-    cast-result-2
-    returns-2)
+    (tie.spec returns sub-result mul-result add-result shared-slice-read-result returns-2)

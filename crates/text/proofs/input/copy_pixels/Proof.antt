@@ -11,7 +11,7 @@ use Rattle.text.proofs.input.copy_pixels.Statement.{statement}
 use Rattle.text.proofs.input.copy_pixels.Tie as tie
 
 abbrev invariant-loop : tie.invariant-loop
-invariant-loop values n dst₀ i₀ dst i = (i ≤ n) × Filled dst₀ dst 0 i (λ (k : ℕ). get_or (take n (drop 4 values)) k 0)
+invariant-loop values n dst₀ i₀ dst i = (i ≤ n) × Filled dst₀ dst 0 i (λ (k : ℕ). get_or (take n (drop 3 values)) k 0)
 
 abbrev decreases-loop : tie.decreases-loop
 decreases-loop values n dst₀ i₀ dst i = n - i
@@ -28,8 +28,8 @@ mul-dst c = search rules
 shared-slice-read-dst : tie.Need-shared-slice-read-dst invariant-loop decreases-loop
 shared-slice-read-dst c = search rules
 
-mul-dst-2 : tie.Need-overflow-mul-dst-2 invariant-loop decreases-loop
-mul-dst-2 c = search rules
+cast-dst : tie.Need-overflow-cast-dst invariant-loop decreases-loop
+cast-dst c = omega (arith, c.before.before.before.requires.2 c.before.before.loop.i (omega arith))
 
 slice-write-dst : tie.Need-slice-write-dst invariant-loop decreases-loop
 slice-write-dst c = omega (arith, c.before.before.loop.invariant.1.same, c.before.before.before.requires.1)
@@ -45,7 +45,7 @@ loop-again c =
     let values = c.before.before.before.args.values.now in
     let n = c.before.before.before.args.n in
     let turn = c.before.before.loop in
-    let same = sym (get_or-take n (drop 4 values) turn.i 0 (omega arith) ∙ get_or-drop 4 values turn.i 0) in
+    let same = sym (get_or-take n (drop 3 values) turn.i 0 (omega arith) ∙ get_or-drop 3 values turn.i 0) in
     (omega arith, filled_more turn.invariant.1 (omega arith) (omega (arith, turn.invariant.1.same, c.before.before.before.requires.1)) same)
 
 same_length : tie.Need-same-length invariant-loop decreases-loop
@@ -55,8 +55,8 @@ returns : tie.Need-returns invariant-loop decreases-loop
 returns c =
     let values = c.before.before.args.values.now in
     let n = c.before.before.args.n in
-    let many = length-take-le n (drop 4 values) (omega (arith, length-drop 4 values, c.before.before.requires.0)) in
-    filled-front (take n (drop 4 values)) (filled_end c.before.loop.invariant.1 (omega arith)) many c.before.before.requires.1
+    let many = length-take-le n (drop 3 values) (omega (arith, length-drop 3 values, c.before.before.requires.0)) in
+    filled-front (take n (drop 3 values)) (filled_end c.before.loop.invariant.1 (omega arith)) many c.before.before.requires.1
 
 pub copy-pixels-spec : {M : Type 1} → statement M
 copy-pixels-spec =
@@ -68,7 +68,7 @@ copy-pixels-spec =
     add-dst
     mul-dst
     shared-slice-read-dst
-    mul-dst-2
+    cast-dst
     slice-write-dst
     add-i
     loop-less

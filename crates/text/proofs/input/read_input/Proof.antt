@@ -4,7 +4,7 @@ use Prim.Native.Nat.{ℕ, ◌*◌}
 use native.Mathlib.Omega.{arith}
 use lib.ListN.{length}
 use Rattle.answer.proofs.Rules.{after-done, after-refused}
-use Rattle.text.proofs.Frames.{input_fits, input_value, input_small, input_room, input_pixels, input_refused, input_done}
+use Rattle.text.proofs.Frames.{input_fits, input_value, input_small, input_room, input_below, input_pixels, input_refused, input_done}
 use borrow.Author.Rules.{rules}
 use Rattle.text.proofs.input.read_input.Statement.{statement}
 use Rattle.text.proofs.input.read_input.Tie as tie
@@ -41,17 +41,25 @@ array-read-wide-3 c = search rules
 wide-requires-3 : tie.Need-wide-requires-3
 wide-requires-3 c κs = search rules
 
-array-read-wide-4 : tie.Need-array-read-wide-4
-array-read-wide-4 c = search rules
-
-wide-requires-4 : tie.Need-wide-requires-4
-wide-requires-4 c κs = search rules
-
 slice-aggregate-copy-pixels : tie.Need-slice-aggregate-copy-pixels
 slice-aggregate-copy-pixels c = search rules
 
 mul-copy-pixels : tie.Need-overflow-mul-copy-pixels
 mul-copy-pixels c =
+    let text = c.before.before.before.before.before.before.before.before.before.before.before.args.text.now in
+    let room = length c.before.before.before.before.before.before.before.before.before.before.before.args.pixels.now in
+    let a = c.before.before.before.before.before.before.before.tested.result in
+    let tests = c.before.before.before.before.before.before.before.tested.ensures in
+    let done = c.before.before.before.before.if1.false in
+    let value = input_value text room _ _ a tests done (search rules) in
+    let width = c.before.before.wide2.ensures.0 ∙ value 1 (omega arith) in
+    let height = c.before.wide3.ensures.0 ∙ value 2 (omega arith) in
+    let pixels = ap₂ (λ (w h : ℕ). w * h) width height in
+    let small = input_small text room _ _ a tests done (search rules) in
+    record { fits = omega (arith, small, pixels) }
+
+copy-pixels-requires : tie.Need-copy-pixels-requires
+copy-pixels-requires c κs =
     let args = c.before.before.before.before.before.before.before.before.before.before.before.before.args in
     let text = args.text.now in
     let room = length args.pixels.now in
@@ -62,23 +70,11 @@ mul-copy-pixels c =
     let width = c.before.before.before.wide2.ensures.0 ∙ value 1 (omega arith) in
     let height = c.before.before.wide3.ensures.0 ∙ value 2 (omega arith) in
     let pixels = ap₂ (λ (w h : ℕ). w * h) width height in
-    let small = input_small text room _ _ a tests done (search rules) in
-    record { fits = omega (arith, small, pixels) }
-
-copy-pixels-requires : tie.Need-copy-pixels-requires
-copy-pixels-requires c κs =
-    let args = c.before.before.before.before.before.before.before.before.before.before.before.before.before.args in
-    let text = args.text.now in
-    let room = length args.pixels.now in
-    let a = c.before.before.before.before.before.before.before.before.before.tested.result in
-    let tests = c.before.before.before.before.before.before.before.before.before.tested.ensures in
-    let done = c.before.before.before.before.before.before.if1.false in
-    let value = input_value text room _ _ a tests done (search rules) in
-    let width = c.before.before.before.before.wide2.ensures.0 ∙ value 1 (omega arith) in
-    let height = c.before.before.before.wide3.ensures.0 ∙ value 2 (omega arith) in
-    let pixels = ap₂ (λ (w h : ℕ). w * h) width height in (
+    let below = input_below text room _ _ a tests done (search rules) in (
       omega (arith, pixels, input_room text room _ _ a tests done (search rules)),
-      omega (arith, pixels, (input_fits text room _ _ a tests done (search rules)).2),
+      omega
+          (arith, pixels, (input_fits text room _ _ a tests done (search rules)).2),
+      λ k h. below k (omega (arith, pixels)),
     )
 
 same_length : tie.Need-same-length
@@ -86,20 +82,18 @@ same_length c = search rules
 
 returns-2 : tie.Need-returns-2
 returns-2 c =
-    let args = c.before.before.before.before.before.before.before.before.before.before.before.before.before.before.before.before.args in
-    let text = args.text.now in
-    let room = length args.pixels.now in
-    let a = c.before.before.before.before.before.before.before.before.before.before.before.before.tested.result in
-    let tests = c.before.before.before.before.before.before.before.before.before.before.before.before.tested.ensures in
-    let done = c.before.before.before.before.before.before.before.before.before.if1.false in
+    let text = c.before.before.before.before.before.before.before.before.before.before.before.before.before.before.before.args.text.now in
+    let room = length c.before.before.before.before.before.before.before.before.before.before.before.before.before.before.before.args.pixels.now in
+    let a = c.before.before.before.before.before.before.before.before.before.before.before.tested.result in
+    let tests = c.before.before.before.before.before.before.before.before.before.before.before.tested.ensures in
+    let done = c.before.before.before.before.before.before.before.before.if1.false in
     let value = input_value text room _ _ a tests done (search rules) in
-    let direction = c.before.before.before.before.before.before.before.before.wide.ensures.0 ∙ value 0 (omega arith) in
-    let width = c.before.before.before.before.before.before.before.wide2.ensures.0 ∙ value 1 (omega arith) in
-    let height = c.before.before.before.before.before.before.wide3.ensures.0 ∙ value 2 (omega arith) in
-    let bits = c.before.before.before.before.before.wide4.ensures.0 ∙ value 3 (omega arith) in
+    let width = c.before.before.before.before.before.before.wide2.ensures.0 ∙ value 1 (omega arith) in
+    let height = c.before.before.before.before.before.wide3.ensures.0 ∙ value 2 (omega arith) in
     let pixels = ap₂ (λ (w h : ℕ). w * h) width height in
+    let direction = c.before.before.before.before.before.before.before.wide.ensures.0 ∙ value 0 (omega arith) in
     let copied = rw (pixels, input_pixels text room _ _ a tests done (search rules)) at c.before.before.copy-pixels.ensures in
-    record { reads = input_done text room a tests.answers _ _ _ _ done direction width height bits; written = copied ∙ sym (after-done a _ _ done) }
+    record { reads = input_done text room a tests.answers _ _ _ done direction width height; written = copied ∙ sym (after-done a _ _ done) }
 
 pub read-input-spec : {M : Type 1} → statement M
 read-input-spec =
@@ -114,8 +108,6 @@ read-input-spec =
     wide-requires-2
     array-read-wide-3
     wide-requires-3
-    array-read-wide-4
-    wide-requires-4
     slice-aggregate-copy-pixels
     mul-copy-pixels
     copy-pixels-requires

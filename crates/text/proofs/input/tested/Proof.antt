@@ -3,7 +3,7 @@ use mathlib.Core.Path.{sym, ◌∙◌}
 use native.Mathlib.Omega.{arith}
 use borrow.Author.Tests.{not-true, not-false}
 use Rattle.answer.specs.Rules.{refusal}
-use Rattle.text.proofs.Frames.{head_values, refused-size, refused_head, refused-numbers, tests_refused, headed, tests_rows}
+use Rattle.text.proofs.Frames.{head_values, refused-size, refused_head, refused_numbers, tests_refused, headed, tests_rows}
 use borrow.Author.Rules.{rules}
 use Rattle.text.proofs.input.tested.Statement.{statement}
 use Rattle.text.proofs.input.tested.Tie as tie
@@ -72,7 +72,7 @@ returns-3 c =
     let direction = c.before.before.before.wide3.ensures.0 ∙ value 0 (omega arith) in
     let numbers = c.before.before.tested-numbers in
     tests_refused text args.room args.values.now _ numbers.result c.if3.true
-    (refused-numbers text args.room c.before.before.before.before.before.before.before.before.before.before.before.before.before.before.before.if1.false (sym head.ensures.found ∙ found) numbers.result (rw (width, height, direction) at numbers.ensures) c.if3.true)
+    (refused_numbers text args.room c.before.before.before.before.before.before.before.before.before.before.before.before.before.before.before.if1.false (sym head.ensures.found ∙ found) numbers.result (rw (width, height, direction) at numbers.ensures) c.if3.true)
 
 tested-rows-requires : tie.Need-tested-rows-requires
 tested-rows-requires c κs =

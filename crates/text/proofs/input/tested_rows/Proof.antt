@@ -1,29 +1,17 @@
 -- The rows as they were read, and the last two rules one after the other.
-use mathlib.Core.Path.{ap, ◌∙◌}
+use mathlib.Core.Path.{◌∙◌}
 use native.Mathlib.Nat.{lt_of_le_of_lt, mul-le-mul}
-use native.Mathlib.Omega.{arith}
 use lib.Dec.{lit<}
 use Rattle.answer.specs.Limits.{longest}
 use Rattle.answer.proofs.Rules.{outside_not}
-use Rattle.text.specs.Inputs.{width_in, height_in, brightest_of}
-use Rattle.text.proofs.Readings.{brightest_bound}
+use Rattle.text.specs.Inputs.{width_in, height_in}
 use Rattle.text.proofs.Frames.{rows_tested}
 use borrow.Author.Rules.{rules}
 use Rattle.text.proofs.input.tested_rows.Statement.{statement}
 use Rattle.text.proofs.input.tested_rows.Tie as tie
 
-slice-read-wide : tie.Need-slice-read-wide
-slice-read-wide c = omega (arith, c.before.before.before.requires.room.inside, c.before.before.before.requires.room.fewer, c.before.before.before.requires.room.large)
-
-wide-requires : tie.Need-wide-requires
-wide-requires c κs = search rules
-
-brightest-of-requires : tie.Need-brightest-of-requires
-brightest-of-requires c κs = search rules
-
 read-rows-requires : tie.Need-read-rows-requires
-read-rows-requires c κs =
-    (c.before.before.before.before.before.before.requires.room, omega (arith, c.before.brightest-of.ensures, brightest_bound c.before.before.wide.result))
+read-rows-requires c κs = c.before.before.before.requires.room
 
 done-requires : tie.Need-done-requires
 done-requires c κs = search rules
@@ -33,7 +21,7 @@ unless-requires c κs = search rules
 
 mul-needing : tie.Need-overflow-mul-needing
 mul-needing c =
-    let entry = c.before.before.before.before.before.before.before.before.before.before.before.before in
+    let entry = c.before.before.before.before.before.before.before.before.before in
     let head = entry.requires in
     let width = outside_not 1 longest (width_in entry.args.text.now) head.wide in
     let height = outside_not 1 longest (height_in entry.args.text.now) head.high in
@@ -47,18 +35,14 @@ same_length c = search rules
 
 returns : tie.Need-returns
 returns c =
-    let entry = c.before.before.before.before.before.before.before.before.before.before.before.before.before in
+    let entry = c.before.before.before.before.before.before.before.before.before.before in
     let rows = c.before.before.before.before.before.before.read-rows in
-    let limit = c.before.before.before.before.before.before.before.before.brightest-of.ensures ∙ ap brightest_of c.before.before.before.before.before.before.before.before.before.wide.ensures.0 in
-    rows_tested entry.requires entry.args.room _ limit rows.ensures _ (c.needing.ensures ∙ rw (c.before.unless.ensures, c.before.before.before.done.ensures))
+    rows_tested entry.requires entry.args.room rows.ensures _ (c.needing.ensures ∙ rw (c.before.unless.ensures, c.before.before.before.done.ensures))
 
 pub tested-rows-spec : {M : Type 1} → statement M
 tested-rows-spec =
     tie.close
     (tie.spec
-    slice-read-wide
-    wide-requires
-    brightest-of-requires
     read-rows-requires
     done-requires
     unless-requires

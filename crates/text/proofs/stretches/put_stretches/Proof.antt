@@ -5,7 +5,7 @@ use Prim.Native.Nat.{ℕ}
 use native.Mathlib.Omega.{arith}
 use lib.ListN.{length, get_or}
 use borrow.Author.Tests.{not-true, not-false}
-use Rattle.bright.specs.Generator.{run16, coming}
+use Rattle.bright.specs.Generator.{run8, coming}
 use Rattle.bright.specs.Stretches.{stretches}
 use Rattle.bright.specs.Nesting.{nested, records}
 use Rattle.text.specs.Lines.{line_text}
@@ -22,7 +22,7 @@ invariant-loop dst₀ at line places runs₀ end₀ bookmark₀ i₀ dst runs en
     × Left dst₀ at (stretches_text (records (stretches line))) dst end (lines_from line i)
 
 abbrev decreases-loop : tie.decreases-loop
-decreases-loop dst₀ at line places runs₀ end₀ bookmark₀ i₀ dst runs end bookmark i = length (coming run16 line runs bookmark)
+decreases-loop dst₀ at line places runs₀ end₀ bookmark₀ i₀ dst runs end bookmark i = length (coming run8 line runs bookmark)
 
 begin-requires : tie.Need-begin-requires invariant-loop decreases-loop
 begin-requires c κs = search rules

@@ -5,7 +5,7 @@ use Prim.Native.Nat.{ℕ, ◌+◌}
 use native.Mathlib.Omega.{arith}
 use lib.ListN.{length}
 use borrow.Author.Tests.{not-true, not-false}
-use Rattle.bright.specs.Generator.{run16, coming}
+use Rattle.bright.specs.Generator.{run8, coming}
 use Rattle.bright.specs.Stretches.{stretches}
 use Rattle.bright.specs.Nesting.{records}
 use Rattle.text.specs.Lines.{line_text}
@@ -21,7 +21,7 @@ invariant-loop line places runs₀ bytes₀ bookmark₀ i₀ runs bytes bookmark
     (length runs ≡ length runs₀) × Printing line places runs bookmark i × (bytes + length (lines_from line i) ≡ length (stretches_text (records (stretches line))))
 
 abbrev decreases-loop : tie.decreases-loop
-decreases-loop line places runs₀ bytes₀ bookmark₀ i₀ runs bytes bookmark i = length (coming run16 line runs bookmark)
+decreases-loop line places runs₀ bytes₀ bookmark₀ i₀ runs bytes bookmark i = length (coming run8 line runs bookmark)
 
 begin-requires : tie.Need-begin-requires invariant-loop decreases-loop
 begin-requires c κs = search rules

@@ -4,10 +4,10 @@ use Rattle.vectors.proofs.draw.check_bytes.Statement.{statement}
 use Rattle.vectors.proofs.draw.check_bytes.Tie as tie
 
 abbrev invariant-loop : tie.invariant-loop
-invariant-loop before scratch from to end check₀ i₀ check i = end ≤ length scratch
+invariant-loop before buf from to end check₀ i₀ check i = end ≤ length buf
 
 abbrev decreases-loop : tie.decreases-loop
-decreases-loop before scratch from to end check₀ i₀ check i = end - i
+decreases-loop before buf from to end check₀ i₀ check i = end - i
 
 least-requires : tie.Need-least-requires invariant-loop decreases-loop
 least-requires c κs = search rules
@@ -15,11 +15,11 @@ least-requires c κs = search rules
 loop-holds : tie.Need-loop-init invariant-loop decreases-loop
 loop-holds c = search rules
 
-shared-slice-read-byte : tie.Need-shared-slice-read-byte invariant-loop decreases-loop
-shared-slice-read-byte c = search rules
+shared-slice-read-wide : tie.Need-shared-slice-read-wide invariant-loop decreases-loop
+shared-slice-read-wide c = search rules
 
-wide-byte-requires : tie.Need-wide-byte-requires invariant-loop decreases-loop
-wide-byte-requires c κs = search rules
+wide-requires : tie.Need-wide-requires invariant-loop decreases-loop
+wide-requires c κs = search rules
 
 mixed-requires : tie.Need-mixed-requires invariant-loop decreases-loop
 mixed-requires c κs = search rules
@@ -44,8 +44,8 @@ check-bytes-spec =
     decreases-loop
     least-requires
     loop-holds
-    shared-slice-read-byte
-    wide-byte-requires
+    shared-slice-read-wide
+    wide-requires
     mixed-requires
     add-i
     loop-less

@@ -4,10 +4,10 @@ use Rattle.vectors.proofs.draw.check_places.Statement.{statement}
 use Rattle.vectors.proofs.draw.check_places.Tie as tie
 
 abbrev invariant-loop : tie.invariant-loop
-invariant-loop before places n end check₀ i₀ check i = end ≤ length places
+invariant-loop places n end check₀ i₀ check i = end ≤ length places
 
 abbrev decreases-loop : tie.decreases-loop
-decreases-loop before places n end check₀ i₀ check i = end - i
+decreases-loop places n end check₀ i₀ check i = end - i
 
 least-requires : tie.Need-least-requires invariant-loop decreases-loop
 least-requires c κs = search rules

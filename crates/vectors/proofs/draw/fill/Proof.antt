@@ -1,22 +1,19 @@
--- The end is no more than the pixelsfer's length, which a store keeps.
+-- The end is no more than the buffer's length, which a store keeps.
 use Rattle.std.proofs.Common.{◌≡◌, ◌-◌, ◌≤◌, length, rules}
 use Rattle.vectors.proofs.draw.fill.Statement.{statement}
 use Rattle.vectors.proofs.draw.fill.Tie as tie
 
 abbrev invariant-loop : tie.invariant-loop
-invariant-loop pixels₀ n kind seed end s₀ last₀ i₀ pixels s last i = (end ≤ length pixels) × (length pixels ≡ length pixels₀)
+invariant-loop buf₀ n kind seed end s₀ last₀ i₀ buf s last i = (end ≤ length buf) × (length buf ≡ length buf₀)
 
 abbrev decreases-loop : tie.decreases-loop
-decreases-loop pixels₀ n kind seed end s₀ last₀ i₀ pixels s last i = end - i
+decreases-loop buf₀ n kind seed end s₀ last₀ i₀ buf s last i = end - i
 
 least-requires : tie.Need-least-requires invariant-loop decreases-loop
 least-requires c κs = search rules
 
 seeded-requires : tie.Need-seeded-requires invariant-loop decreases-loop
 seeded-requires c κs = search rules
-
-level-before-requires : tie.Need-level-before-requires invariant-loop decreases-loop
-level-before-requires c κs = search rules
 
 loop-holds : tie.Need-loop-init invariant-loop decreases-loop
 loop-holds c = search rules
@@ -27,11 +24,11 @@ step-requires c κs = search rules
 pixel-requires : tie.Need-pixel-requires invariant-loop decreases-loop
 pixel-requires c κs = search rules
 
-cast-pixels : tie.Need-overflow-cast-pixels invariant-loop decreases-loop
-cast-pixels c = search rules
+cast-buf : tie.Need-overflow-cast-buf invariant-loop decreases-loop
+cast-buf c = search rules
 
-slice-write-pixels : tie.Need-slice-write-pixels invariant-loop decreases-loop
-slice-write-pixels c = search rules
+slice-write-buf : tie.Need-slice-write-buf invariant-loop decreases-loop
+slice-write-buf c = search rules
 
 add-i : tie.Need-overflow-add-i invariant-loop decreases-loop
 add-i c = search rules
@@ -56,12 +53,11 @@ fill_spec =
     decreases-loop
     least-requires
     seeded-requires
-    level-before-requires
     loop-holds
     step-requires
     pixel-requires
-    cast-pixels
-    slice-write-pixels
+    cast-buf
+    slice-write-buf
     add-i
     loop-less
     loop-again

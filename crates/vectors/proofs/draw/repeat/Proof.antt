@@ -1,13 +1,13 @@
--- The byte before is one of the textfer's, since none is further back than the front.
+-- The byte before is one of the buffer's, since none is further back than the front.
 use Rattle.std.proofs.Common.{◌≡◌, ◌-◌, ◌≤◌, length, rules}
 use Rattle.vectors.proofs.draw.repeat.Statement.{statement}
 use Rattle.vectors.proofs.draw.repeat.Tie as tie
 
 abbrev invariant-loop : tie.invariant-loop
-invariant-loop text₀ from to period end i₀ text i = (end ≤ length text) × (length text ≡ length text₀)
+invariant-loop buf₀ from to period end i₀ buf i = (end ≤ length buf) × (length buf ≡ length buf₀)
 
 abbrev decreases-loop : tie.decreases-loop
-decreases-loop text₀ from to period end i₀ text i = end - i
+decreases-loop buf₀ from to period end i₀ buf i = end - i
 
 least-requires : tie.Need-least-requires invariant-loop decreases-loop
 least-requires c κs = search rules
@@ -18,14 +18,14 @@ loop-holds c = search rules
 least-requires-2 : tie.Need-least-requires-2 invariant-loop decreases-loop
 least-requires-2 c κs = search rules
 
-sub-text : tie.Need-overflow-sub-text invariant-loop decreases-loop
-sub-text c = search rules
+sub-buf : tie.Need-overflow-sub-buf invariant-loop decreases-loop
+sub-buf c = search rules
 
-slice-read-text : tie.Need-slice-read-text invariant-loop decreases-loop
-slice-read-text c = search rules
+slice-read-buf : tie.Need-slice-read-buf invariant-loop decreases-loop
+slice-read-buf c = search rules
 
-slice-write-text : tie.Need-slice-write-text invariant-loop decreases-loop
-slice-write-text c = search rules
+slice-write-buf : tie.Need-slice-write-buf invariant-loop decreases-loop
+slice-write-buf c = search rules
 
 add-i : tie.Need-overflow-add-i invariant-loop decreases-loop
 add-i c = search rules
@@ -51,9 +51,9 @@ repeat-spec =
     least-requires
     loop-holds
     least-requires-2
-    sub-text
-    slice-read-text
-    slice-write-text
+    sub-buf
+    slice-read-buf
+    slice-write-buf
     add-i
     loop-less
     loop-again

@@ -1,13 +1,13 @@
--- The end is no more than the textfer's length, which a store keeps.
+-- The end is no more than the buffer's length, which a store keeps.
 use Rattle.std.proofs.Common.{◌≡◌, ◌-◌, ◌≤◌, length, rules}
 use Rattle.vectors.proofs.input.bytes.Statement.{statement}
 use Rattle.vectors.proofs.input.bytes.Tie as tie
 
 abbrev invariant-loop : tie.invariant-loop
-invariant-loop file from n text₀ end at₀ i₀ text at i = (end ≤ length text) × (length text ≡ length text₀)
+invariant-loop text from n buf₀ end at₀ i₀ buf at i = (end ≤ length buf) × (length buf ≡ length buf₀)
 
 abbrev decreases-loop : tie.decreases-loop
-decreases-loop file from n text₀ end at₀ i₀ text at i = end - i
+decreases-loop text from n buf₀ end at₀ i₀ buf at i = end - i
 
 least-requires : tie.Need-least-requires invariant-loop decreases-loop
 least-requires c κs = search rules
@@ -18,11 +18,11 @@ loop-holds c = search rules
 number-requires : tie.Need-number-requires invariant-loop decreases-loop
 number-requires c κs = search rules
 
-cast-text : tie.Need-overflow-cast-text invariant-loop decreases-loop
-cast-text c = search rules
+cast-buf : tie.Need-overflow-cast-buf invariant-loop decreases-loop
+cast-buf c = search rules
 
-slice-write-text : tie.Need-slice-write-text invariant-loop decreases-loop
-slice-write-text c = search rules
+slice-write-buf : tie.Need-slice-write-buf invariant-loop decreases-loop
+slice-write-buf c = search rules
 
 add-i : tie.Need-overflow-add-i invariant-loop decreases-loop
 add-i c = search rules
@@ -48,8 +48,8 @@ bytes-spec =
     least-requires
     loop-holds
     number-requires
-    cast-text
-    slice-write-text
+    cast-buf
+    slice-write-buf
     add-i
     loop-less
     loop-again

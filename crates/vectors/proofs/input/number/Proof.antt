@@ -1,19 +1,19 @@
--- Each turn reads one byte of the file.
+-- Each turn reads one byte of the text.
 use Rattle.std.proofs.Common.{◌-◌, ◌≤◌, length, rules}
 use Rattle.vectors.proofs.input.number.Statement.{statement}
 use Rattle.vectors.proofs.input.number.Tie as tie
 
 abbrev invariant-loop : tie.invariant-loop
-invariant-loop file from so-far₀ at₀ so_far at = from ≤ at
+invariant-loop text from so-far₀ at₀ so_far at = from ≤ at
 
 abbrev decreases-loop : tie.decreases-loop
-decreases-loop file from so-far₀ at₀ so_far at = length file - at
+decreases-loop text from so-far₀ at₀ so_far at = length text - at
 
 loop-holds : tie.Need-loop-init invariant-loop decreases-loop
 loop-holds c = search rules
 
-shared-slice-read-byte : tie.Need-shared-slice-read-byte invariant-loop decreases-loop
-shared-slice-read-byte c = search rules
+shared-slice-read-read : tie.Need-shared-slice-read-read invariant-loop decreases-loop
+shared-slice-read-read c = search rules
 
 read-requires : tie.Need-read-requires invariant-loop decreases-loop
 read-requires c κs = search rules
@@ -40,7 +40,7 @@ number-spec =
     invariant-loop
     decreases-loop
     loop-holds
-    shared-slice-read-byte
+    shared-slice-read-read
     read-requires
     add_at
     loop-less

@@ -4,10 +4,10 @@ use Rattle.vectors.proofs.input.numbers.Statement.{statement}
 use Rattle.vectors.proofs.input.numbers.Tie as tie
 
 abbrev invariant-loop : tie.invariant-loop
-invariant-loop file from fields₀ at₀ i₀ fields at i = i ≤ 14
+invariant-loop text from fields₀ at₀ i₀ fields at i = i ≤ 14
 
 abbrev decreases-loop : tie.decreases-loop
-decreases-loop file from fields₀ at₀ i₀ fields at i = 14 - i
+decreases-loop text from fields₀ at₀ i₀ fields at i = 14 - i
 
 loop-holds : tie.Need-loop-init invariant-loop decreases-loop
 loop-holds c = search rules
