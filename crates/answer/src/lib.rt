@@ -1,4 +1,6 @@
 // What a numbered call hands back, the limits that the rules name, and the tests that more than one call's rules make.
+#![tactic(auto)]
+
 ghost use Rattle.std.specs.Prelude.{◌≡◌, ltb};
 ghost use Rattle.answer.specs.Rules.{done, refusal, rule, checked, outside};
 
@@ -13,7 +15,7 @@ pub const STEEPEST: i64 = 255;
 
 // The number of the rule that refused the call, 0 where it is done; and the figure that goes with it.
 #[repr(C)]
-#[derive(Drop)]
+#[derive(Clone, Copy)]
 pub struct Answer {
     pub number: u32,
     pub figure: u64,

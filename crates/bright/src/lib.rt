@@ -1,9 +1,10 @@
 // The bright stretches of a line, whatever the width of its pixels: what a reading of the line stands at and what it finds. What a bright stretch is, which
 // encloses which, how one reading makes the list, and the laws of these speak of lists of numbers (specs/, proofs/).
+#![tactic(auto)]
 
 // A bright stretch: its start, its end, which is not included, its darkest pixel and its brighter neighbour.
 #[repr(C)]
-#[derive(Drop)]
+#[derive(Clone, Copy)]
 pub struct Stretch {
     pub start: u16,
     pub end: u16,
@@ -14,21 +15,21 @@ pub struct Stretch {
 // A bright stretch as the list holds it: its four numbers and, as the fifth, the place, from 0, in the list of the shortest other stretch that encloses it; of the whole
 // line its own place.
 #[repr(C)]
-#[derive(Drop)]
+#[derive(Clone, Copy)]
 pub struct Nested {
     pub stretch: Stretch,
     pub encloser: u16,
 }
 
 // Where a reading of a line stands: how many pixels are read, and how many runs are open in the scratch.
-#[derive(Drop)]
+#[derive(Clone, Copy)]
 pub struct Bookmark {
     pub read: usize,
     pub depth: usize,
 }
 
 // What a reading finds next, and the bookmark to go on from; `found` is false where there is none.
-#[derive(Drop)]
+#[derive(Clone, Copy)]
 pub struct Step {
     pub found: bool,
     pub stretch: Stretch,
@@ -37,7 +38,7 @@ pub struct Step {
 
 // What a listing finds next, and the bookmark to go on from. No place in the list is known before the list is whole: until then `nested` has the start of its
 // encloser for the encloser's place.
-#[derive(Drop)]
+#[derive(Clone, Copy)]
 pub struct Noted {
     pub found: bool,
     pub nested: Nested,

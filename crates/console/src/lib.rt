@@ -1,4 +1,6 @@
 // What both programs do with standard input and output.
+#![tactic(auto)]
+
 ghost use Rattle.std.specs.Prelude.{◌≤◌, length};
 ghost use Rattle.text.specs.Stretches.{refusal_text};
 ghost use Rattle.console.specs.Streams.{Receives, Shows};
@@ -17,7 +19,7 @@ pub const PIXELS: usize = LONGEST_INPUT / 2;
 const TRIES: usize = 1000000;
 
 // How many bytes stand at the front of the buffer, and whether they are the whole input, or as much of it as there was room for: not where a read failed.
-#[derive(Drop)]
+#[derive(Clone, Copy)]
 pub struct Received {
     pub whole: bool,
     pub count: usize,

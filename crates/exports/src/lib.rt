@@ -1,5 +1,7 @@
 // The calls that the benchmark (bench/) and the demonstration (host/demo.c) make, each under a name that C can link (host/calls.h). The product's own entry
 // for C is another (include/fibre.h).
+#![tactic(auto)]
+
 ghost use Rattle.std.specs.Prelude.{◌≡◌};
 ghost use Rattle.frame.specs.Direction.{dir};
 ghost use Rattle.frame.specs.Shape.{shape};

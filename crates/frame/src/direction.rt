@@ -8,7 +8,7 @@ use crate::signed::{is_steeper, size};
 use answer::{LONGEST, is_outside};
 
 // A direction (p, q): p columns to the right for q rows down.
-#[derive(Drop)]
+#[derive(Clone, Copy)]
 pub struct Direction {
     pub p: i64,
     pub q: i64,

@@ -1,4 +1,6 @@
 // Frames and their lines, by their numbers alone: no call here sees a pixel's value.
+#![tactic(auto)]
+
 mod direction;
 mod length;
 mod lines;

@@ -8,7 +8,7 @@ use crate::signed::{lowest, onward};
 use crate::sweep::{low_of, swept};
 
 // The number of the first line, and how many lines there are: their numbers ascend by one.
-#[derive(Drop)]
+#[derive(Clone, Copy)]
 pub struct Lines {
     pub first: i64,
     pub count: usize,

@@ -5,7 +5,7 @@ ghost use Rattle.frame.specs.Shape.{is_frame, needed, scratch_for};
 use answer::{LONGEST, WIDEST, is_outside};
 
 // A frame's width and height in pixels, and how many bytes its rows are apart.
-#[derive(Drop)]
+#[derive(Clone, Copy)]
 pub struct Shape {
     pub width: usize,
     pub height: usize,

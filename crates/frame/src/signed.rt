@@ -32,7 +32,7 @@ pub(crate) fn opposed(p: i64, q: i64) -> bool
     if p < 0 { 0 < q } else { 0 < p && q < 0 }
 }
 
-#[derive(Drop)]
+#[derive(Clone, Copy)]
 pub(crate) struct Index {
     pub there: bool,
     pub at: usize,

@@ -7,7 +7,7 @@ ghost use Rattle.frame.specs.Span.{passed, skipped, spanning};
 use crate::sweep::Sweep;
 
 // A stretch of major coordinates: the first, and how many.
-#[derive(Drop)]
+#[derive(Clone, Copy)]
 pub(crate) struct Span {
     pub from: usize,
     pub count: usize,

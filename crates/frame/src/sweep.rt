@@ -11,7 +11,7 @@ use answer::{LONGEST, STEEPEST, is_outside};
 
 // How many major and minor coordinates there are; how many bytes of the frame it is from one major coordinate to the next (`pace`) and from one minor coordinate
 // to the next (`sidestep`); the slope; and how far a line moves aside from its first major coordinate to the last.
-#[derive(Drop)]
+#[derive(Clone, Copy)]
 pub struct Sweep {
     pub majors: usize,
     pub minors: usize,

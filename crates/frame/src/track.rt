@@ -9,7 +9,7 @@ use crate::span::spanned;
 use crate::sweep::{low_of, sweep_of};
 
 // A line's index, its first major coordinate, and how many pixels it has.
-#[derive(Drop)]
+#[derive(Clone, Copy)]
 pub struct Track {
     pub index: usize,
     pub from: usize,

@@ -1,4 +1,6 @@
 // Lines of a frame of pixels: gathered, scattered, and claimed for a number; and the lent row.
+#![tactic(auto)]
+
 mod cells;
 mod claiming;
 mod gathering;

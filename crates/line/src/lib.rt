@@ -1,4 +1,6 @@
 // Erosion, dilation and opening of a line of 8-bit pixels, and the engine that opens lines where they stand.
+#![tactic(auto)]
+
 mod dilation;
 mod doubling;
 mod erosion;

@@ -1,4 +1,6 @@
 // The marked examples of document 01 on lines, P1 to P6, run through the library: the file `stdout` beside this folder has what document 01 says.
+#![tactic(auto)]
+
 use libc::STDOUT_FILENO;
 
 fn wide(x: u8) -> u64 {

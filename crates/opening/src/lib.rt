@@ -1,4 +1,6 @@
 // Opening a frame in one direction, and the highest opening over the sixteen numbered directions with the number of the direction that gave it.
+#![tactic(auto)]
+
 mod claiming;
 mod frames;
 mod host;

@@ -1,4 +1,6 @@
 // Size sums of lines and frames of 8-bit pixels, and what is made of them.
+#![tactic(auto)]
+
 mod frames;
 mod lines;
 mod roses;

@@ -6,7 +6,7 @@ ghost use Rattle.sizes.specs.Summary.{exactest, weighted, refused_by, summary_of
 use answer::{LONGEST, is_outside};
 
 // The mean length, how much of the light lies in the bins, and the number of the rule that refused the call, 0 where it is done.
-#[derive(Drop)]
+#[derive(Clone, Copy)]
 pub struct Summary {
     pub mean: f64,
     pub share: f64,

@@ -1,4 +1,6 @@
 // The bright stretches of a line of 8-bit pixels: how many there are, one after the other, which encloses which, and all of them in a lent table.
+#![tactic(auto)]
+
 mod generator;
 mod listing;
 mod nesting;

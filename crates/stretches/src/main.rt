@@ -1,4 +1,6 @@
 // The program stretches: the bright stretches of each line of a frame in a direction.
+#![tactic(auto)]
+
 use answer::LONGEST;
 use console::{PIXELS, ROOM};
 use frame::{Direction, Shape};

@@ -1,4 +1,6 @@
 // The program sums: bins and rest of a frame in a direction, with three bins.
+#![tactic(auto)]
+
 use console::{PIXELS, ROOM};
 use frame::{Direction, Shape};
 

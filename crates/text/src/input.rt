@@ -13,7 +13,7 @@ use answer::{Answer, LONGEST, is_outside};
 pub const LONGEST_INPUT: usize = 65536;
 
 // A frame that was read: the answer; and the direction number, the width and the height, which are 0 on refusal.
-#[derive(Drop)]
+#[derive(Clone, Copy)]
 pub struct Input {
     pub answer: Answer,
     pub direction: usize,

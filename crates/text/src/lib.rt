@@ -1,4 +1,6 @@
 // The texts of the two programs: what they print, and how their input is read.
+#![tactic(auto)]
+
 mod decimal;
 mod input;
 mod lines;

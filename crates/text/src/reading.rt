@@ -8,7 +8,7 @@ ghost use Rattle.text.specs.Steps.{no_number, no_mark, Reads, Room, Stores};
 const LARGEST_NUMBER: usize = 65535;
 
 // Whether a number was read, its value, and the place behind it.
-#[derive(Drop)]
+#[derive(Clone, Copy)]
 pub(crate) struct Number {
     pub found: bool,
     pub value: usize,
@@ -16,7 +16,7 @@ pub(crate) struct Number {
 }
 
 // Whether values were read, and the place behind them.
-#[derive(Drop)]
+#[derive(Clone, Copy)]
 pub(crate) struct Mark {
     pub found: bool,
     pub next: usize,

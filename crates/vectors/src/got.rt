@@ -1,7 +1,7 @@
 // What a call handed back, in the four numbers that are printed of it.
 use answer::Answer;
 
-#[derive(Drop)]
+#[derive(Clone, Copy)]
 pub(crate) struct Got {
     pub number: u64,
     pub figure: u64,

@@ -5,7 +5,7 @@ use crate::draw::least;
 const FIELDS: usize = 14;
 
 // A case: the call, how its buffers are filled, and its arguments; what a call does not take is 0.
-#[derive(Drop)]
+#[derive(Clone, Copy)]
 pub(crate) struct Case {
     pub call: u64,
     pub kind: u64,
@@ -24,7 +24,7 @@ pub(crate) struct Case {
 }
 
 // A number as far as it is read.
-#[derive(Drop)]
+#[derive(Clone, Copy)]
 struct Reading {
     size: u64,
     minus: bool,
@@ -32,7 +32,7 @@ struct Reading {
 }
 
 // A number, and where the next one starts.
-#[derive(Drop)]
+#[derive(Clone, Copy)]
 struct Found {
     bits: u64,
     next: usize,

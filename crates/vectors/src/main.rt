@@ -1,5 +1,7 @@
 // Runs the library on the cases of `stdin` and prints what it got, a line a case. `stdin` and `stdout` are written by the referee, check/referee.rs,
 // which computes the same from the specification alone: both sides fill the buffers by one generator (draw.rt).
+#![tactic(auto)]
+
 use draw::{check_bytes, check_sums, fill, fill_sums, least, repeat};
 use got::Got;
 use input::Case;

@@ -1,0 +1,9 @@
+use Prim.Native.Nat.{◌-◌, ◌≤◌, ◌<◌}
+use Rattle.frame.specs.Length.{count_for}
+use Rattle.frame.proofs.length.count_for.Given as goal
+
+abbrev pub invariant-loop-low : goal.invariant-loop-low
+invariant-loop-low l = (l.low < count_for l.a l.b l.length) × (count_for l.a l.b l.length ≤ l.high) × (l.high ≤ l.length)
+
+abbrev pub decreases-loop-low : goal.decreases-loop-low
+decreases-loop-low l = l.high - l.low
