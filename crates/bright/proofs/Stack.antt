@@ -57,9 +57,9 @@ stack_put8 m i s l h =
       three_1 m (4 * i) (s % 256) (s / 256) l h₃,
       three_2 m (4 * i) (s % 256) (s / 256) l h₃,
       e,
-      stack_set i _ (4 * i + 2) l (omega arith),
-      stack_set i _ (4 * i + 1) (s / 256) (omega arith),
-      stack_set i _ (4 * i) (s % 256) (omega arith),
+      stack_set i (set (set m (4 * i) (s % 256)) (4 * i + 1) (s / 256)) (4 * i + 2) l (omega arith),
+      stack_set i (set m (4 * i) (s % 256)) (4 * i + 1) (s / 256) (omega arith),
+      stack_set i m (4 * i) (s % 256) (omega arith),
     )
 
 pub stack_length : (run : Layout) (m : List ℕ) (d : ℕ) → length (stack_of run m d) ≡ d
