@@ -1,0 +1,99 @@
+-- Each turn of the first loop stores the record found in the table; each turn of the second reads a record, and stores the encloser's place in it.
+-- What the loops keep to is `Laying` and `Placing`.
+use Rattle.std.proofs.Common.{◌≡◌, sym, ◌∙◌, ap, subst, length, ℕ, suc, ◌+◌, ◌-◌, ◌*◌, ◌<◌, ◌≤◌, List, get_or, arith}
+use Rattle.std.proofs.Math.ListN.{set}
+use Rattle.answer.specs.declared.Answer.{Answer}
+use Rattle.answer.specs.Limits.{longest}
+use Rattle.bright.specs.declared.Nested.{Nested}
+use Rattle.bright.specs.Stretches.{stretches, no_stretch}
+use Rattle.bright.specs.Generator.{run8}
+use Rattle.bright.specs.Nesting.{stretch_at, nested}
+use Rattle.bright.specs.Steps.{outer_of, noted, Links}
+use Rattle.bright.proofs.Laying.{laying_start, laying_begins, laying_room, laying_less, laying_length, laying_table, laying_step, placed, Placing, placing_start, placing_begins, placing_needs, placing_here, placing_table, placing_step, placing_end}
+use Rattle.stretch.proofs.listing.list.Goals as goal
+
+-- what lies past a table's end
+abbrev none : Nested
+none = nested no_stretch 0
+
+-- one turn of the second loop: of the table l the record at j is read, which still has the start of its encloser
+module _ {f : List ℕ} {t : List Nested} {o : List ℕ} {a : Answer} {c : ℕ} {m : List ℕ} {k : ℕ} (g : Placing f t o a c m k) (l : List Nested) (e : l ≡ placed f t c k)
+    (j : ℕ) (up : suc j ≡ k) where
+  stands : Placing f t o a c m (suc j)
+  stands = rw up g
+
+  table_up : l ≡ placed f t c (suc j)
+  table_up = rw up e
+
+  is_noted : get_or l j none ≡ noted (stretches f) j
+  is_noted = ap (λ (x : List Nested). get_or x j none) table_up ∙ placing_here stands none
+
+  needed : (2 * (get_or l j none).stretch.start + 2 ≤ length m) × (2 * (get_or l j none).encloser + 2 ≤ length m) × (j < c) × (c ≤ longest)
+  needed =
+      subst (λ (s : Nested). (2 * s.stretch.start + 2 ≤ length m) × (2 * s.encloser + 2 ≤ length m) × (j < c) × (c ≤ longest)) (sym is_noted) (placing_needs stands)
+
+  module _ {m' : List ℕ} {r : ℕ} (h : Links m (get_or l j none).stretch.start (get_or l j none).encloser j c m' r) where
+    linked : Links m (stretch_at (stretches f) j).start (outer_of (stretches f) j) j c m' r
+    linked = subst (λ (s : Nested). Links m s.stretch.start s.encloser j c m' r) is_noted h
+
+    next_placing : Placing f t o a c m' j
+    next_placing = placing_step stands linked
+
+    next_table : set l j (nested (get_or l j none).stretch r) ≡ placed f t c j
+    next_table =
+        ap (λ (s : Nested). set l j (nested s.stretch r)) is_noted
+        ∙ ap (λ (x : List Nested). set x j (nested (noted (stretches f) j).stretch r)) table_up ∙ placing_table stands linked
+
+pub loop-table-init : goal.loop-table-init
+loop-table-init c =
+    let a = c.args in
+    record {
+      laying = laying_start run8 a.line.now a.table.now a.scratch.now c.refusal-a.result c.start-at.result c.refusal-a.ensures c.start-at.ensures;
+      table = laying_begins a.line.now a.table.now;
+    }
+
+pub bounds-table-i : goal.bounds-table-i
+bounds-table-i c =
+    let at = c.loop-table.invariant in
+    let step = c.next_noted-step.ensures in
+    let found = c.loop-table-test.true in
+    omega (arith, laying_room at.laying step found, laying_length at.laying step found, ap length at.table)
+
+pub loop-table-smaller : goal.loop-table-smaller
+loop-table-smaller c = laying_less c.loop-table.invariant.laying c.next_noted-step.ensures c.loop-table-test.true
+
+pub loop-table-preserved : goal.loop-table-preserved
+loop-table-preserved c =
+    let at = c.loop-table.invariant in
+    let step = c.next_noted-step.ensures in
+    let found = c.loop-table-test.true in
+    record {
+      laying = laying_step at.laying step found;
+      table = ap (λ (x : List Nested). set x c.loop-table.i c.next_noted-step.result.nested) at.table ∙ laying_table at.laying step found;
+    }
+
+pub loop-k-init : goal.loop-k-init
+loop-k-init c =
+    let at = c.loop-table.invariant in
+    record {
+      placing = placing_start at.laying c.next_noted-step.ensures c.loop-table-test.false;
+      table = at.table ∙ placing_begins c.args.line.now c.args.table.now c.loop-table.i;
+    }
+
+pub link-requires : goal.link-requires
+link-requires c =
+    let at = c.loop-k.invariant in
+    needed at.placing c.loop-k.table at.table (c.loop-k.k - 1) (omega arith)
+
+pub loop-k-preserved : goal.loop-k-preserved
+loop-k-preserved c =
+    let at = c.loop-k.invariant in
+    record {
+      placing = next_placing at.placing c.loop-k.table at.table (c.loop-k.k - 1) (omega arith) c.link.ensures;
+      table = next_table at.placing c.loop-k.table at.table (c.loop-k.k - 1) (omega arith) c.link.ensures;
+    }
+
+pub returns : goal.returns
+returns c =
+    let at = c.loop-k.invariant in
+    rw at.table (placing_end at.placing (omega arith) c.refusal-a.ensures c.finish.result c.finish.ensures)

@@ -1,0 +1,27 @@
+use Rattle.std.proofs.Common.{◌≡◌, length, ◌-◌}
+use Rattle.bright.specs.Stretches.{stretches}
+use Rattle.bright.specs.Generator.{run8}
+use Rattle.bright.proofs.Laying.{laid, Laying, placed, Placing}
+use Rattle.stretch.proofs.listing.list.Given as goal
+
+-- the records of the stretches found so far are laid at the front of the table
+abbrev pub invariant-loop-table : goal.invariant-loop-table
+invariant-loop-table l =
+    record {
+      laying : Laying run8 l.line l.fn.table l.fn.scratch l.a l.i l.scratch l.at;
+      table : l.table ≡ laid l.line l.fn.table l.i;
+    }
+
+abbrev pub decreases-loop-table : goal.decreases-loop-table
+decreases-loop-table l = length (stretches l.line) - l.i
+
+-- those from k on have their enclosers
+abbrev pub invariant-loop-k : goal.invariant-loop-k
+invariant-loop-k l =
+    record {
+      placing : Placing l.line l.fn.table l.fn.scratch l.a l.i l.scratch l.k;
+      table : l.table ≡ placed l.line l.fn.table l.i l.k;
+    }
+
+abbrev pub decreases-loop-k : goal.decreases-loop-k
+decreases-loop-k l = l.k

@@ -1,0 +1,8 @@
+use Rattle.bright.proofs.Links.{Linking}
+use Rattle.stretch.proofs.nesting.enclosers.Given as goal
+
+abbrev pub invariant-loop-k : goal.invariant-loop-k
+invariant-loop-k l = Linking l.line l.starts l.initial.places l.initial.scratch l.count l.places l.scratch l.k
+
+abbrev pub decreases-loop-k : goal.decreases-loop-k
+decreases-loop-k l = l.k
