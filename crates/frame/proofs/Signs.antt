@@ -20,7 +20,7 @@ use Rattle.answer.specs.Limits.{longest, steepest}
 use Rattle.frame.proofs.Numbers.{minus_is}
 
 pub back : (z : ℤ) → mag z < 2 ^ 63 → to_z w64 (of_z w64 z) ≡ z
-back z h = to_z-of_z (record { sfits = h })
+back z h = to_z-of_z {w = w64} (record { sfits = h })
 
 pub below-zero : (z : ℤ) → lt_z z (pos 0) ≡ true → (negsuc 0 -ℤ z ≡ pos (mag z)) × (nat_abs z ≡ mag z + 1)
 below-zero (pos n) e = absurd (lt_irrefl n (lt_of_lt_of_le (ltb-true n 0 e) zero-le))

@@ -1,10 +1,10 @@
 -- A pixel among others, and on its line of the sweep.
---   index_at, index_in         where a pixel stands in a list
+--   index_at, index_in_lem       where a pixel stands in a list
 --   Spot, spot_of, spot-cell   each pixel of a frame is on a line of the sweep, at a major coordinate; its byte
 --   spot-line, spot_index      its line's number, and its index among the line's pixels
 -- Assumes nothing.
 use mathlib.Core.Path.{◌≡◌, refl, sym, ap, ap₂, ◌∙◌, subst}
-use mathlib.Core.Bool.{Bool, true, false, and_false, true≢false}
+use mathlib.Core.Bool.{Bool, true, false, and-false, true≢false}
 use mathlib.Core.Logic.{⊎_elim}
 use mathlib.Core.List.Memᴰ
 use mathlib.Core.List.{List, [], ◌∷◌, Memᴰ}
@@ -49,10 +49,10 @@ index_at c (b ∷ cs) (suc j) h e none =
     rw (none 0 (omega arith)) (ap suc (index_at c cs j (le_of_suc-le-suc h) e (λ k l. none (suc k) (omega arith))))
 
 -- a pixel of a list stands at its index
-pub index_in : (c : Pixel) (cs : List Pixel) → Memᴰ c cs → (index_in c cs < length cs) × (get_or cs (index_in c cs) (at 0 0) ≡ c)
+pub index_in_lem : (c : Pixel) (cs : List Pixel) → Memᴰ c cs → (index_in c cs < length cs) × (get_or cs (index_in c cs) (at 0 0) ≡ c)
 unfolding index_in
-index_in c [] m = absurd (Memᴰ.not-nil m)
-index_in c (b ∷ cs) m = go (index_in c cs) (same_pixel c b) refl
+index_in_lem c [] m = absurd (Memᴰ.not-nil m)
+index_in_lem c (b ∷ cs) m = go (index_in_lem c cs) (same_pixel c b) refl
   where
     go : (Memᴰ c cs → (index_in c cs < length cs) × (get_or cs (index_in c cs) (at 0 0) ≡ c)) → (t : Bool) → same_pixel c b ≡ t
         → (index_in c (b ∷ cs) < length (b ∷ cs)) × (get_or (b ∷ cs) (index_in c (b ∷ cs)) (at 0 0) ≡ c)
@@ -67,7 +67,7 @@ spot-other d i j k l apart = go (shallow d) refl
   where
     go : (t : Bool) → shallow d ≡ t → same_pixel (spot d i j) (spot d k l) ≡ false
     go true e = rw e (rw (ne_eqb i k apart))
-    go false e = rw e (rw (ne_eqb i k apart, and_false))
+    go false e = rw e (rw (ne_eqb i k apart, and-false))
 
 -- ---- a pixel and its line
 

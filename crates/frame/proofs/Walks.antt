@@ -8,7 +8,7 @@
 --   cell_reach        each byte of a line lies before the last pixel's end
 -- Assumes nothing.
 use mathlib.Core.Path.{◌≡◌, refl, sym, ap, ◌∙◌}
-use mathlib.Core.Bool.{Bool, true, false, cond, and_false}
+use mathlib.Core.Bool.{Bool, true, false, cond, and-false}
 use mathlib.Core.List.{List, [], map, map-map, Memᴰ}
 use Prim.Native.Nat.{ℕ, ◌+◌, ◌-◌, ◌*◌, ◌≤◌, ◌<◌}
 use native.Mathlib.Omega.{arith}
@@ -49,7 +49,7 @@ hit-below s u i h = rw (lt-leb (shift s i) u h)
 
 pub hit-past : (s : Sweep) (u i : ℕ) → shift s i + s.minors ≤ u → hit s u i ≡ false
 unfolding hit
-hit-past s u i h = rw (le-ltb u (shift s i + s.minors) h, and_false)
+hit-past s u i h = rw (le-ltb u (shift s i + s.minors) h, and-false)
 
 pub value_on : (s : Sweep) (f : List ℕ) (u i : ℕ) → hit s u i ≡ true → value s f u i ≡ get_or f (cell s u i) 0
 unfolding value

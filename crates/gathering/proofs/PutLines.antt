@@ -19,7 +19,7 @@ use Rattle.frame.specs.Painted.{Gap}
 use Rattle.frame.specs.Sweep.{Accepted}
 use Rattle.frame.proofs.Pixels.{its_line, on_its_line}
 use Rattle.frame.proofs.Partition.{place-once, line-once}
-use Rattle.frame.proofs.Spots.{index_in}
+use Rattle.frame.proofs.Spots.{index_in_lem}
 use Rattle.frame.proofs.ByLines.{map_at}
 use Rattle.frame.proofs.Alongs.{row_ends}
 use Rattle.gathering.specs.Scattering.{put}
@@ -39,7 +39,7 @@ stands : (sh : Shape) (d : Direction) (k : ℤ) (x y : ℕ) → x < sh.width →
     → (index_in (at x y) (pixels sh d k) < length (pixels sh d k)) × (get_or (map (place sh) (pixels sh d k)) (index_in (at x y) (pixels sh d k)) 0 ≡ place sh (at x y))
 stands sh d k x y h l e =
     let member = subst (λ (z : ℤ). Memᴰ (at x y) (pixels sh d z)) e (on_its_line sh d x y h l) in
-    let here = index_in (at x y) (pixels sh d k) member in
+    let here = index_in_lem (at x y) (pixels sh d k) member in
     (here.0, map_at (place sh) (pixels sh d k) (index_in (at x y) (pixels sh d k)) here.0 ∙ ap (place sh) here.1)
 
 module _ (sh : Shape) (d : Direction) (ok : Accepted sh d) (k : ℤ) where

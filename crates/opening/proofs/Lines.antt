@@ -38,7 +38,7 @@ use Rattle.frame.proofs.Numbers.{sub_inj}
 use Rattle.frame.proofs.Shapes.{framed}
 use Rattle.frame.proofs.Pixels.{on_its_line, empty_not, number, pixels-most, line_among, among_line}
 use Rattle.frame.proofs.Firsts.{lines-accepted, number_is, number-back}
-use Rattle.frame.proofs.Spots.{index_in}
+use Rattle.frame.proofs.Spots.{index_in_lem}
 use Rattle.gathering.specs.Gathering.{Gathers}
 use Rattle.gathering.specs.Claiming.{claims, ClaimsLine}
 use Rattle.gathering.proofs.Calls.{gather_done}
@@ -142,7 +142,7 @@ module _ {f : List ℕ} {sh : Shape} {d : Direction} {L : ℕ} {k : ℤ} {v : Li
   unfolding opening.opened_pixel
   line-value x y h l e =
       let member = subst (λ (z : ℤ). Memᴰ (at x y) (pixels sh d z)) e (on_its_line sh d x y h l) in
-      o.is (index_in (at x y) (pixels sh d k)) (index_in (at x y) (pixels sh d k) member).0
+      o.is (index_in (at x y) (pixels sh d k)) (index_in_lem (at x y) (pixels sh d k) member).0
       ∙ sym (ap (λ (z : ℤ). get_or (opened (line_read f sh d z) L) (index_in (at x y) (pixels sh d z)) 0) e)
 
 -- the first n lines have claimed pixels for a number, from the best so far

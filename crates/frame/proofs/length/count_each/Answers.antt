@@ -1,6 +1,6 @@
 -- The counts of the lengths to i stand at the front.
 use mathlib.Core.Path.{refl, sym}
-use Prim.Native.Nat.{suc, ◌-◌}
+use Prim.Native.Nat.{suc}
 use native.Mathlib.Numerals.{add-one}
 use native.Mathlib.Omega.{arith}
 use Rattle.lists.proofs.Stores.{filled_none, filled_more, filled_end, filled-whole}

@@ -1,6 +1,5 @@
 -- The count lies above `low`, and not above `high`.
 use mathlib.Core.Path.{sym, ◌∙◌}
-use Prim.Native.Nat.{◌-◌}
 use native.Mathlib.Omega.{arith}
 use Rattle.frame.proofs.Lengths.{count-some, count_most, count-below, count-above}
 use Rattle.frame.proofs.length.count_for.Goals as goal

@@ -12,7 +12,6 @@ use Rattle.frame.specs.Sweep.{low, lines, Accepted, Sane}
 use Rattle.frame.proofs.Shapes.{sweep_sane, top_less, low_less}
 use Rattle.frame.proofs.Signs.{lowest-fits}
 use Rattle.frame.proofs.Pixels.{first-is, count-is}
-use borrow.Author.Rules.{rules}
 use Rattle.frame.proofs.lines.lines_of.Goals.{After-low_of, After-swept-s, Else-not-is_direction}
 use Rattle.frame.proofs.lines.lines_of.Goals as goal
 

@@ -2,7 +2,6 @@
 use mathlib.Core.Path.{sym, ◌∙◌}
 use Rattle.frame.specs.Sweep.{Accepted}
 use Rattle.frame.proofs.Shapes.{sweep_accepted}
-use borrow.Author.Rules.{rules}
 use Rattle.frame.proofs.sweep.sweep_of.Goals.{Else-not-is_direction}
 use Rattle.frame.proofs.sweep.sweep_of.Goals as goal
 

@@ -23,13 +23,10 @@ record Known (sh : Shape) (d : Direction) (a b : ℕ) (f : Bool) : Type 0 where
   pair : Directed d
   frame : Framed sh
 
-abbrev start : After-opposed-falling → tie.Start
-start c = c.before.before.before.before.before
-
-known : (c : After-opposed-falling) → Known (start c).args.shape (start c).args.d c.size-a.result c.size-b.result c.opposed-falling.result
+known : (c : After-opposed-falling) → Known c.args.shape c.args.d c.size-a.result c.size-b.result c.opposed-falling.result
 known c =
-    let sh = (start c).args.shape in
-    let d = (start c).args.d in
+    let sh = c.args.shape in
+    let d = c.args.d in
     let told = c.struct_told-1.given in
     let p = back d.p told.0.1 in
     let q = back d.q told.1.0.1 in
@@ -37,8 +34,8 @@ known c =
       left = c.size-a.ensures ∙ ap nat_abs p;
       right = c.size-b.ensures ∙ ap nat_abs q;
       falls = c.opposed-falling.ensures ∙ ap₂ (λ (x y : ℤ). opposite (dir x y)) p q;
-      pair = directed d (start c).requires.direction;
-      frame = framed sh (start c).requires.frame;
+      pair = directed d c.requires.direction;
+      frame = framed sh c.requires.frame;
     }
 
 module _ (sh : Shape) (d : Direction) {a b : ℕ} {f : Bool} {t : ℕ} (ea : a ≡ nat_abs d.p) (eb : b ≡ nat_abs d.q) (ef : f ≡ opposite d) where

@@ -1,6 +1,7 @@
 -- The index of the number, and then the span of that line; nowhere where there is no such line.
 use mathlib.Core.Path.{◌≡◌, sym, ap, ◌∙◌}
 use native.Mathlib.Omega.{arith}
+use borrow.Author.Tests.{not-true, not-false}
 use lib.IntN.{sub_ℕ}
 use mir.Facts.{to_z-of_z}
 use Rattle.frame.specs.declared.span.Span.{Span}
@@ -25,7 +26,7 @@ indexed c = rw (to_z-of_z c.ranges.line, c.low_of.ensures, c.sweep_of-s.ensures)
 pub returns-then-not-index : goal.returns-then-not-index
 returns-then-not-index c =
     let a = c.args in
-    let missing = (indexed (goal.at.returns-then-not-index c).After-index_of-index).missing c.if-not-index.true in
+    let missing = (indexed (goal.at.returns-then-not-index c).After-index_of-index).missing (not-true _ c.if-not-index.true) in
     track_nowhere a.shape a.d a.line (λ u e. absurd (missing u e))
 
 pub overflow_add-s : goal.overflow_add-s
@@ -36,7 +37,7 @@ overflow_add-s c =
 -- the line's index
 found : (c : Else-not-index)
     → (let a = c.args in sub_ℕ c.index_of-index.result.at (low (sweep_for a.shape a.d)) ≡ a.line)
-found c = (indexed c.before.before).found c.if-not-index.false
+found c = (indexed c.before.before).found (not-false _ c.if-not-index.false)
 
 pub returns-then-s-u : goal.returns-then-s-u
 returns-then-s-u c =

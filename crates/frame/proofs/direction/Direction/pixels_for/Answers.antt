@@ -19,7 +19,7 @@ measured c = sym c.measures.ensures ∙ c.if-not-measures.false
 pub returns-then-is_straight : goal.returns-then-is_straight
 returns-then-is_straight c =
     let a = c.args in
- let range = measured_range a.self a.length (measured (goal.at.returns-then-is_straight c).Else-not-measures) in
+    let range = measured_range a.self a.length (measured (goal.at.returns-then-is_straight c).Else-not-measures) in
     rw (measured (goal.at.returns-then-is_straight c).Else-not-measures)
     (sym (pixels-straight a.self (measured-direction a.self a.length (measured (goal.at.returns-then-is_straight c).Else-not-measures)) (sym c.is_straight.ensures ∙ c.if-is_straight.true) a.length range.2))
 

@@ -1,6 +1,6 @@
 -- A pair out of range comes back; of one in range both negations fit.
 use mathlib.Core.Path.{sym, ap, ◌∙◌}
-use mathlib.Core.Bool.{and_false}
+use mathlib.Core.Bool.{and-false}
 use native.Mathlib.Omega.{arith}
 use borrow.Author.Tests.{leb-true}
 use lib.IntN.{nat_abs, +ℤ_idl}
@@ -19,7 +19,7 @@ pub returns-then-is_steeper-2 : goal.returns-then-is_steeper-2
 returns-then-is_steeper-2 c =
     let told = c.struct_told-1.given in
     let q = ap nat_abs (back c.args.self.q told.1.0.1) in
-    rw (steeper (sym c.is_steeper-2.ensures ∙ c.if-is_steeper-2.true) q, and_false)
+    rw (steeper (sym c.is_steeper-2.ensures ∙ c.if-is_steeper-2.true) q, and-false)
 
 pub overflow_sub-result : goal.overflow_sub-result
 overflow_sub-result c =
