@@ -12,7 +12,7 @@ loop-j-init c = (omega arith, search rules, filled-start (filled_none _ _ _) (om
 
 pub loop-j-preserved : goal.loop-j-preserved
 loop-j-preserved c =
-    let t = c.args.t4 in
+    let t = c.args.t in
     let at = c.args.at in
     let j = c.loop-j.j in
     let filled = c.loop-j.invariant.2 in

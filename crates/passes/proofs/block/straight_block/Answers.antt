@@ -1,5 +1,5 @@
 -- The first j values of the block are in t.
-use Prim.Native.Nat.{◌-◌, zero-le}
+use Prim.Native.Nat.{zero-le}
 use native.Mathlib.Omega.{arith}
 use Rattle.lists.proofs.Stores.{filled_none, filled_more}
 use borrow.Author.Rules.{rules}

@@ -1,6 +1,5 @@
 -- Byte by byte.
 use mathlib.Core.Path.{refl}
-use Prim.Native.Nat.{◌-◌}
 use native.Mathlib.Omega.{arith}
 use Rattle.lists.proofs.Stores.{filled_none, filled_more, filled_end}
 use borrow.Author.Rules.{rules}

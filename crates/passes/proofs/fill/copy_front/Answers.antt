@@ -1,6 +1,6 @@
 -- Byte by byte.
 use mathlib.Core.Path.{refl}
-use Prim.Native.Nat.{◌-◌, zero-le}
+use Prim.Native.Nat.{zero-le}
 use native.Mathlib.Omega.{arith}
 use Rattle.lists.proofs.Stores.{filled_none, filled_more}
 use Rattle.lists.proofs.Stores.{filled_end}

@@ -1,6 +1,6 @@
 -- Block by block: what is still to be read is as it was.
 use mathlib.Core.Path.{◌≡◌, subst}
-use Prim.Native.Nat.{ℕ, ◌+◌, ◌-◌}
+use Prim.Native.Nat.{ℕ, ◌+◌}
 use native.Mathlib.Omega.{arith}
 use Rattle.lists.specs.Stores.{Filled}
 use Rattle.passes.specs.Passes.{op, straight, met, treated_from, treated_to}
