@@ -1,4 +1,4 @@
-# make test    the gate: the layout of every file, the referee's cases, calls from a host, the host itself, the programs, then every proof, must-fail edit and program from nothing (rt ci)
+# make test    the gate: the referee's cases, calls from a host, the host itself, the programs, then every proof, must-fail edit and program from nothing (rt ci)
 # make demo    runs the library on the marked examples of its specification, both programs on a small frame, and the host's calls on a made picture of the chute (docs/demo.png)
 # make host    builds the host that opens PGM pictures, target/host/fibre, and the maker of a chute picture, target/host/chute
 # make bench   times it beside its peers, natively, in one run (bench/run --record keeps it under docs/bench/)
@@ -7,18 +7,15 @@
 .PHONY: test demo host bench
 
 test:
-	@rt fmt --check
 	@check/citations
 	@check/vectors
 	@check/listing
 	@check/run
 	@check/host
-	@tools/prove check stretches sums
 	@check/programs
-	@tools/prove ci
+	@tools/prove
 
 demo:
-	@tools/prove check marked stretches sums
 	@host/build target/host chute
 	@host/build target/host demo
 	@echo "The line 3 5 5 2 4: example, refusal number, figure, values"

@@ -1,4 +1,4 @@
-// The entry for the camera's host, written in C: numbers and byte slices in, one number back.
+// The entry for the camera's host, written in C: numbers and byte slices in, one number back. The crate `opening_c` exports it.
 ghost use Rattle.std.specs.Prelude.{◌≡◌};
 ghost use Rattle.frame.specs.Direction.{dir};
 ghost use Rattle.frame.specs.Shape.{shape};
@@ -20,8 +20,7 @@ fn one_number(a: Answer) -> u64
 }
 
 // Opens a frame as `open_frame` does.
-#[unsafe(no_mangle)]
-pub extern "C" fn fibre_open_frame(
+pub fn fibre_open_frame(
     src: &[Pixel],
     width: usize,
     height: usize,
