@@ -226,9 +226,9 @@ new_top b v rs s = go (settled v rs) (settled-top v rs) (stack_settled b v rs s)
             let q : leb r.start b ≡ true = le-leb r.start b (omega (arith, s.0)) in
             rw q (omega (arith, ltb-false r.level v t))
 
-inner_start : (x : ℕ) (rs : List Run) → inner_start x rs ≤ x
-inner_start x [] = omega arith
-inner_start x (r ∷ rs) = go (leb r.start x) refl (inner_start x rs)
+inner_start_lem : (x : ℕ) (rs : List Run) → inner_start x rs ≤ x
+inner_start_lem x [] = omega arith
+inner_start_lem x (r ∷ rs) = go (leb r.start x) refl (inner_start_lem x rs)
   where
     go : (t : Bool) → leb r.start x ≡ t → inner_start x rs ≤ x → cond t r.start (inner_start x rs) ≤ x
     go true t ih = leb-true r.start x t
@@ -244,7 +244,7 @@ unread (v ∷ ps) zero x b rs e h s =
     let c = read-chain ps b (suc b) (climbed b v (settled v rs)) (le_refl (suc b)) t in
     rw (q, held-append b (ended b v rs) (todo (suc b) ps (climbed b v (settled v rs))), none-held b b v rs (le_refl b))
     (chain-wide v (inner_start b (climbed b v (settled v rs))) (suc b) b (suc b) (holders b (todo (suc b) ps (climbed b v (settled v rs))))
-    (inner_start b (climbed b v (settled v rs))) (le_refl (suc b)) (rw (new_top b v rs s) at c))
+    (inner_start_lem b (climbed b v (settled v rs))) (le_refl (suc b)) (rw (new_top b v rs s) at c))
 unread (v ∷ ps) (suc i) x b rs e h s =
     let t : Stack (suc b) (climbed b v (settled v rs)) = stack_climbed b v (settled v rs) (stack_settled b v rs s) in
     rw (held-append x (ended b v rs) (todo (suc b) ps (climbed b v (settled v rs))), none-held x b v rs (omega arith))
