@@ -6,7 +6,7 @@ use lib.Seq.{sets}
 use Rattle.text.specs.Decimal.{decimal}
 use Rattle.text.proofs.Decimals.{decimal-one, decimal-more, decimal-length}
 use Rattle.text.proofs.Runs.{sets_one}
-use Prim.Native.Nat.{ℕ, ◌+◌, ◌/◌}
+use Prim.Native.Nat.{◌/◌}
 use Rattle.text.proofs.decimal.+put_number.Goals as goal
 
 pub bounds-dst-at : goal.bounds-dst-at

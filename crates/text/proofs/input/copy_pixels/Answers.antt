@@ -1,6 +1,5 @@
 -- The first i values stand at the front.
 use mathlib.Core.Path.{sym, ◌∙◌}
-use Prim.Native.Nat.{◌-◌}
 use native.Mathlib.Omega.{arith}
 use lib.ListN.{take, drop, length-drop}
 use lib.Seq.{get_or-take, get_or-drop, length-take-le}

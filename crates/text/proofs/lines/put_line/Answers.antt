@@ -1,5 +1,4 @@
 -- The letter, then one field a turn, and the line feed.
-use Prim.Native.Nat.{◌-◌}
 use mathlib.Core.Path.{refl}
 use mathlib.Core.List.{[], ◌∷◌}
 use native.Mathlib.Omega.{arith}

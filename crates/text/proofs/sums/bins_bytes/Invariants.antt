@@ -1,7 +1,6 @@
 use Prim.Native.Nat.{◌-◌, ◌*◌, ◌≤◌}
 use mathlib.Core.Path.{◌≡◌}
 use lib.ListN.{length}
-use Rattle.lists.specs.Tables as tables
 use Rattle.text.specs.Sums.{bins_text}
 use Rattle.text.proofs.sums.bins_bytes.Given as goal
 
