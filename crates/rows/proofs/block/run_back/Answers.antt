@@ -1,0 +1,35 @@
+-- Rows from t on have met those that come next in the block.
+use Prim.Native.Nat.{◌-◌}
+use native.Mathlib.Omega.{arith}
+use Rattle.rows.proofs.Rowwise.{rows_start}
+use Rattle.rows.proofs.Blocks.{down-still, back_none, back_more}
+use Rattle.rows.proofs.block.run_back.Goals as goal
+
+pub loop-t-init : goal.loop-t-init
+loop-t-init c =
+    let a = c.args in
+    let pre = c.requires in
+    (omega arith, omega arith, back_none a.s a.darker pre.0 a.buf.now a.end)
+
+pub meet_next-requires : goal.meet_next-requires
+meet_next-requires c =
+    let pre = c.requires in
+    let at = c.loop-t in
+    (down-still pre.0 at.invariant.2.same, omega (arith, at.invariant.1, pre.2, c.loop-t-test.true))
+
+pub loop-t-preserved : goal.loop-t-preserved
+loop-t-preserved c =
+    let a = c.args in
+    let pre = c.requires in
+    let at = c.loop-t in
+    let some = c.loop-t-test.true in (
+      omega (arith, some),
+      omega (arith, at.invariant.1),
+      back_more a.s a.darker pre.0 (at.t - 1) a.end (rows_start at.invariant.2 (omega (arith, some))) c.meet_next.ensures (omega (arith, at.invariant.1, some)) pre.2,
+    )
+
+pub shape_of-buf : goal.shape_of-buf
+shape_of-buf c = c.loop-t.invariant.2.same
+
+pub returns : goal.returns
+returns c = rows_start c.loop-t.invariant.2 (omega (arith, c.loop-t.invariant.0, c.loop-t-test.false))

@@ -1,0 +1,11 @@
+use Prim.Native.Nat.{ℕ, ◌+◌, ◌-◌, ◌≤◌, ◌<◌}
+use Rattle.rows.specs.Rows.{RowsAre}
+use Rattle.rows.specs.Down.{start_at, shifts, extreme_of}
+use Rattle.rows.proofs.block.run_back.Given as goal
+
+abbrev pub invariant-loop-t : goal.invariant-loop-t
+invariant-loop-t l =
+    (l.from ≤ l.t) × (l.t < l.end) × RowsAre (start_at l.s l.darker) l.s.minors l.t l.end (λ (t k : ℕ). extreme_of l.s l.darker l.initial.buf (k + shifts l.s l.darker t) t (l.end - 1 - t)) l.initial.buf l.buf
+
+abbrev pub decreases-loop-t : goal.decreases-loop-t
+decreases-loop-t l = l.t
