@@ -1,6 +1,6 @@
 -- The lent row; and along, a line is a row.
 --   row_fits                        a row ends within the slice
---   row_is, row_from                the row that is lent back, and where it begins
+--   row_is, row_from_lem            the row that is lent back, and where it begins
 --   row-length, row-pixel           its length and its pixels
 --   along-row                       in a direction without a slope line u is row u
 -- Assumes nothing.
@@ -32,8 +32,8 @@ module _ (f : List ℕ) (sh : Shape) (y : ℕ) (ok : is_frame sh ≡ true) (fits
   pub row_is : row_of f sh y ≡ take sh.width (drop (y * sh.stride) f)
   row_is = rw has-row
 
-  pub row_from : row_from f sh y ≡ y * sh.stride
-  row_from = rw has-row
+  pub row_from_lem : row_from f sh y ≡ y * sh.stride
+  row_from_lem = rw has-row
 
   pub row-length : length (row_of f sh y) ≡ sh.width
   row-length =

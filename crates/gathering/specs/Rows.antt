@@ -3,7 +3,7 @@
 --   row_of f sh y         the pixels of row y of the frame f; none where there is no such row
 --   row_from f sh y      how many bytes into the frame they begin; 0 where there is no such row
 --   LendsRow src sh y part    what `row` promises: the part that it lends back of the slice src
--- A lent slice is the memory that it stands in (`ptr.0`), where it begins there (`ptr.1`), and the bytes that it holds (`now`).
+-- A lent slice is the memory that it stands in (`ref_ptr.0`), where it begins there (`ref_ptr.1`), and the bytes that it holds (`now`).
 -- Laws: gathering/proofs/LentRows.
 use Rattle.std.specs.Prelude.{◌≡◌, Bool, cond, ◌&&◌, List, [], ℕ, ◌+◌, ◌*◌, leb, ltb, length, take, drop}
 use Rattle.std.specs.Borrow.{Bor}

@@ -43,7 +43,7 @@ use Rattle.frame.proofs.Partition.{flat}
 use Rattle.frame.proofs.Lengths.{pixels-some}
 use Rattle.frame.proofs.Pixels.{its_line}
 use Rattle.gathering.specs.Rows.{has_row, LendsRow}
-use Rattle.gathering.proofs.LentRows.{row_from, row-length, row-pixel}
+use Rattle.gathering.proofs.LentRows.{row_from_lem, row-length, row-pixel}
 use Rattle.opening.specs.Pixels.{opened_pixel, in_direction}
 use Rattle.opening.specs.Frames.{OpensFrame}
 use Rattle.opening.specs.Sixteen.{FindsHighest}
@@ -210,7 +210,7 @@ pub row_is : {src part : Bor (List ℕ)} {sh : Shape} {y : ℕ} → LendsRow src
 row_is {src} {part} {sh} {y} p ok fits here =
     record {
       memory = p.memory;
-      begins = p.begins ∙ ap (λ (n : ℕ). src.ref_ptr.1 + n) (row_from src.now sh y ok fits here);
+      begins = p.begins ∙ ap (λ (n : ℕ). src.ref_ptr.1 + n) (row_from_lem src.now sh y ok fits here);
       size = ap length p.contents ∙ row-length src.now sh y ok fits here;
       bytes = λ x h. ap (λ (l : List ℕ). get_or l x 0) p.contents ∙ row-pixel src.now sh y ok fits here x h;
     }
