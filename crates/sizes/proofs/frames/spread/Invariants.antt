@@ -1,0 +1,12 @@
+use mathlib.Core.Path.{◌≡◌}
+use Prim.Native.Nat.{◌-◌, ◌≤◌}
+use lib.ListN.{length, get_or}
+use Rattle.lists.specs.Stores.{Filled}
+use Rattle.sizes.specs.Steps.{spread_to}
+use Rattle.sizes.proofs.frames.spread.Given as goal
+
+abbrev pub invariant-loop-i : goal.invariant-loop-i
+invariant-loop-i l = (l.i ≤ length l.initial.sums) × (l.taken ≡ get_or l.counts l.i 0) × Filled l.initial.sums l.sums l.i (length l.initial.sums) (spread_to l.counts l.initial.sums)
+
+abbrev pub decreases-loop-i : goal.decreases-loop-i
+decreases-loop-i l = l.i
