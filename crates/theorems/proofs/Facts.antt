@@ -120,10 +120,10 @@ same-is c b e =
 same_self : (c : Pixel) → same_pixel c c ≡ true
 same_self c = both (eqb c.x c.x) (eqb c.y c.y) (eq-eqb c.x c.x refl) (eq-eqb c.y c.y refl)
 
-index_in : (c : Pixel) (cs : List Pixel) → Memᴰ c cs → (index_in c cs < length cs) × (get_or cs (index_in c cs) (at 0 0) ≡ c)
+index_in_lem : (c : Pixel) (cs : List Pixel) → Memᴰ c cs → (index_in c cs < length cs) × (get_or cs (index_in c cs) (at 0 0) ≡ c)
 unfolding index_in
-index_in c [] m = absurd (Memᴰ.not-nil m)
-index_in c (b ∷ cs) m = go (same_pixel c b) refl (index_in c cs) (Memᴰ.cases_cons m)
+index_in_lem c [] m = absurd (Memᴰ.not-nil m)
+index_in_lem c (b ∷ cs) m = go (same_pixel c b) refl (index_in_lem c cs) (Memᴰ.cases_cons m)
   where
     go : (t : Bool) → same_pixel c b ≡ t → (Memᴰ c cs → (index_in c cs < length cs) × (get_or cs (index_in c cs) (at 0 0) ≡ c)) → (c ≡ b) ⊎ Memᴰ c cs
         → (cond t 0 (suc (index_in c cs)) < length (b ∷ cs)) × (get_or (b ∷ cs) (cond t 0 (suc (index_in c cs))) (at 0 0) ≡ c)
@@ -133,7 +133,7 @@ index_in c (b ∷ cs) m = go (same_pixel c b) refl (index_in c cs) (Memᴰ.cases
 
 pub index_is : (sh : Shape) (d : Direction) (x y : ℕ) → x < sh.width → y < sh.height → OnItsLine sh d x y (index_in (at x y) (pixels sh d (line_of d x y)))
 index_is sh d x y h l =
-    let r = index_in (at x y) (pixels sh d (line_of d x y)) (on_its_line sh d x y h l) in
+    let r = index_in_lem (at x y) (pixels sh d (line_of d x y)) (on_its_line sh d x y h l) in
     record { below = r.0; is = r.1 }
 
 -- a line passes each of its pixels once, so pixel number j of a line is found at j
@@ -158,7 +158,7 @@ entry_index sh d ok k j h =
     let n : length cs ≡ w.count = ap length w.is ∙ length-table S w.count in
     let there : (i : ℕ) → i < length cs → get_or cs i (at 0 0) ≡ S i =
     λ i l. ap (λ (l : List Pixel). get_or l i (at 0 0)) w.is ∙ get_d_table (at 0 0) S w.count i (omega (arith, n)) in
-    let r = index_in (get_or cs j (at 0 0)) cs (entry_in cs j h) in
+    let r = index_in_lem (get_or cs j (at 0 0)) cs (entry_in cs j h) in
     let i : ℕ = index_in (get_or cs j (at 0 0)) cs in
     let major = same_major d (w.from + i) (w.minor i) (w.from + j) (w.minor j) (sym (there i r.0) ∙ r.1 ∙ there j h) in
     omega (arith, major)
