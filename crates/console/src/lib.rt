@@ -1,11 +1,11 @@
-// What both programs do with standard input and output.
+// What both programs do with standard input and output, over any stream.
 #![tactic(auto)]
 
 ghost use Rattle.std.specs.Prelude.{◌≤◌, length};
 ghost use Rattle.text.specs.Stretches.{refusal_text};
 ghost use Rattle.console.specs.Streams.{Receives, Shows};
 
-use libc::{EINTR, STDIN_FILENO, STDOUT_FILENO};
+use std::io::{Error, ErrorKind, Read, Write};
 use text::LONGEST_INPUT;
 
 // What is read at most: one byte more than an input may have, so that a longer one is refused.
@@ -25,23 +25,24 @@ pub struct Received {
     pub count: usize,
 }
 
-// Whether a call that answered `moved` has to be tried again.
-fn is_interrupted(moved: isize) -> bool {
-    moved < 0 && os::errno() == EINTR
+// Whether a call that failed so has to be tried again.
+fn is_interrupted(failure: &Error) -> bool {
+    failure.kind() == ErrorKind::Interrupted
 }
 
 // Reads once to the front of buf: no byte where the input has ended, or where the read failed.
-fn read_once(buf: &mut [u8]) -> Received
+fn read_once<R: Read>(stream: &mut R, buf: &mut [u8]) -> Received
     ensures { Receives buf.old buf.new result }
 {
     let mut tries = 0;
     while tries < TRIES {
-        let moved = libc::read(STDIN_FILENO, buf);
-        if !is_interrupted(moved) {
-            return Received {
-                whole: 0 <= moved,
-                count: io::count(moved, buf),
-            };
+        match stream.read(buf) {
+            Ok(count) => return Received { whole: true, count },
+            Err(failure) => {
+                if !is_interrupted(&failure) {
+                    break;
+                }
+            }
         }
         tries += 1;
     }
@@ -51,13 +52,13 @@ fn read_once(buf: &mut [u8]) -> Received
     }
 }
 
-// Reads standard input to the front of buf until it ends, buf is full, or a read fails.
-pub fn receive(buf: &mut [u8]) -> Received
+// Reads a stream to the front of buf until it ends, buf is full, or a read fails.
+pub fn receive<R: Read>(stream: &mut R, buf: &mut [u8]) -> Received
     ensures { Receives buf.old buf.new result }
 {
     let mut count = 0;
     while count < buf.len() {
-        let more = read_once(&mut buf[count..]);
+        let more = read_once(stream, &mut buf[count..]);
         if more.count == 0 {
             return Received {
                 whole: more.whole,
@@ -70,25 +71,29 @@ pub fn receive(buf: &mut [u8]) -> Received
 }
 
 // Writes once from the front of text. Hands back how many bytes are written, 0 where the write failed.
-fn write_once(text: &[u8]) -> usize
+fn write_once<W: Write>(stream: &mut W, text: &[u8]) -> usize
     ensures { result ≤ length text.now }
 {
     let mut tries = 0;
     while tries < TRIES {
-        let moved = libc::write(STDOUT_FILENO, text);
-        if !is_interrupted(moved) {
-            return io::count(moved, text);
+        match stream.write(text) {
+            Ok(count) => return count,
+            Err(failure) => {
+                if !is_interrupted(&failure) {
+                    break;
+                }
+            }
         }
         tries += 1;
     }
     0
 }
 
-// Writes a text to standard output, and stops at the first write that fails. Answers whether all of it is written.
-fn write_whole(text: &[u8]) -> bool {
+// Writes a text to a stream, and stops at the first write that fails. Answers whether all of it is written.
+fn write_whole<W: Write>(stream: &mut W, text: &[u8]) -> bool {
     let mut done = 0;
     while done < text.len() {
-        let more = write_once(&text[done..]);
+        let more = write_once(stream, &text[done..]);
         if more == 0 {
             return false;
         }
@@ -97,9 +102,9 @@ fn write_whole(text: &[u8]) -> bool {
     true
 }
 
-// Writes the first n bytes of a text to standard output. Answers whether they are written: not where n is 0, which is how the calls that write texts say that
+// Writes the first n bytes of a text to a stream. Answers whether they are written: not where n is 0, which is how the calls that write texts say that
 // they had no room, nor where the text has fewer.
-pub fn show(text: &[u8], n: usize) -> bool
+pub fn show<W: Write>(stream: &mut W, text: &[u8], n: usize) -> bool
     ensures { Shows text.now n result }
 {
     if n == 0 {
@@ -108,14 +113,14 @@ pub fn show(text: &[u8], n: usize) -> bool
     if text.len() < n {
         return false;
     }
-    write_whole(&text[..n])
+    write_whole(stream, &text[..n])
 }
 
 // Prints a refusal: its text has room for any number.
-pub fn refuse(number: u32)
+pub fn refuse<W: Write>(stream: &mut W, number: u32)
     ensures { length (refusal_text number) ≤ 32 }
 {
     let mut text = [0u8; 32];
     let n = text::refusal_text(number as u64, &mut text);
-    show(&text, n);
+    show(stream, &text, n);
 }

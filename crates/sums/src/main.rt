@@ -3,28 +3,29 @@
 
 use console::{PIXELS, ROOM};
 use frame::{Direction, Shape};
+use std::io::Write;
 
 // What a frame's lines need of scratch.
 const SCRATCH: usize = 32768;
 
 // Prints bins and rest of a frame.
-fn print_sums(direction: usize, sums: &[u64]) {
+fn print_sums<W: Write>(stream: &mut W, direction: usize, sums: &[u64]) {
     let mut out = [0u8; 512];
     let a = text::sums_text(direction, sums, &mut out);
     if a.number != 0 {
-        console::refuse(a.number);
+        console::refuse(stream, a.number);
         return;
     }
-    console::show(&out, a.figure as usize);
+    console::show(stream, &out, a.figure as usize);
 }
 
 // Reads a frame and prints its sums, or the refusal.
-fn answer_to(input: &[u8]) {
+fn answer_to<W: Write>(stream: &mut W, input: &[u8]) {
     let mut pixels = [0u8; PIXELS];
     let read = text::read_input(input, &mut pixels);
     let number = read.answer.number;
     if number != 0 {
-        console::refuse(number);
+        console::refuse(stream, number);
         return;
     }
     let shape = Shape {
@@ -42,18 +43,18 @@ fn answer_to(input: &[u8]) {
         &mut scratch,
     );
     if a.number != 0 {
-        console::refuse(a.number);
+        console::refuse(stream, a.number);
         return;
     }
-    print_sums(read.direction, &sums);
+    print_sums(stream, read.direction, &sums);
 }
 
 // Where a read fails, nothing is printed: what was read may lack its end.
-fn main() {
+fn main(rt: HostRuntime) {
     let mut input = [0u8; ROOM];
-    let received = console::receive(&mut input);
+    let received = console::receive(&mut rt.stdin(), &mut input);
     let n = received.count;
     if received.whole {
-        answer_to(&input[..n]);
+        answer_to(&mut rt.stdout(), &input[..n]);
     }
 }

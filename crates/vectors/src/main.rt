@@ -5,7 +5,6 @@
 use draw::{check_bytes, check_sums, fill, fill_sums, least, repeat};
 use got::Got;
 use input::Case;
-use libc::{STDIN_FILENO, STDOUT_FILENO};
 
 mod draw;
 mod frames;
@@ -139,26 +138,18 @@ fn check_left(
     check_bytes(third, scratch, from, guarded(c.scratch))
 }
 
-fn show(case: u64, got: Got, left: u64) {
-    io::print_decimal(STDOUT_FILENO, case);
-    io::write_all(STDOUT_FILENO, b"\t");
-    io::print_decimal(STDOUT_FILENO, got.number);
-    io::write_all(STDOUT_FILENO, b"\t");
-    io::print_decimal(STDOUT_FILENO, got.figure);
-    io::write_all(STDOUT_FILENO, b"\t");
-    show_checks(got.first, got.second, left);
+// A write that fails is passed over: then what is printed is not `stdout`.
+fn show(rt: &impl Print, case: u64, got: Got, left: u64) {
+    let _ = print!(rt; "{case}\t{}\t{}\t", got.number, got.figure);
+    show_checks(rt, got.first, got.second, left);
 }
 
-fn show_checks(first: u64, second: u64, left: u64) {
-    io::print_hex(STDOUT_FILENO, first, 1);
-    io::write_all(STDOUT_FILENO, b"\t");
-    io::print_hex(STDOUT_FILENO, second, 1);
-    io::write_all(STDOUT_FILENO, b"\t");
-    io::print_hex(STDOUT_FILENO, left, 1);
-    io::write_all(STDOUT_FILENO, b"\n");
+fn show_checks(rt: &impl Print, first: u64, second: u64, left: u64) {
+    let _ = println!(rt; "{first:x}\t{second:x}\t{left:x}");
 }
 
 fn run_case(
+    rt: &impl Print,
     number: u64,
     c: Case,
     src: &mut [u8],
@@ -170,11 +161,12 @@ fn run_case(
     prepare(c, src, dst, directions, sums, scratch);
     let got = call(c, src, dst, directions, sums, scratch);
     let left = check_left(c, got.number == 0, dst, directions, sums, scratch);
-    show(number, got, left);
+    show(rt, number, got, left);
 }
 
 // Runs the cases one after the other in the same buffers.
 fn run(
+    rt: &impl Print,
     text: &[u8],
     src: &mut [u8],
     dst: &mut [u8],
@@ -193,19 +185,20 @@ fn run(
         k += 1;
         let c = input::case_of(&fields);
         at = input::bytes(text, at, brought(c), src);
-        run_case(k as u64, c, src, dst, directions, sums, scratch);
+        run_case(rt, k as u64, c, src, dst, directions, sums, scratch);
     }
 }
 
 // Lends the buffers: room for the longest input and one byte more, for the longest sums text, for the directions of the largest frame, and for the scratch of the
 // longest side with a frame besides.
-fn lend(text: &[u8]) {
+fn lend(rt: &impl Print, text: &[u8]) {
     let mut src = [0u8; 65664];
     let mut dst = [0u8; 131072];
     let mut directions = [0u8; 16384];
     let mut sums = [0u64; 4224];
     let mut scratch = [0u8; 49152];
     run(
+        rt,
         text,
         &mut src,
         &mut dst,
@@ -215,8 +208,9 @@ fn lend(text: &[u8]) {
     );
 }
 
-fn main() {
+fn main(rt: HostRuntime) {
     let mut text = [0u8; 1048576];
-    let n = io::read_full(STDIN_FILENO, &mut text);
-    lend(&text[..n]);
+    let received = console::receive(&mut rt.stdin(), &mut text);
+    let n = received.count;
+    lend(&rt, &text[..n]);
 }
