@@ -1,0 +1,5 @@
+use Rattle.std.proofs.Common.{◌-◌}
+use Rattle.stretches.proofs.print_lines.Given as goal
+
+abbrev pub decreases-loop-u : goal.decreases-loop-u
+decreases-loop-u g l = l.count - l.u
