@@ -1,6 +1,6 @@
 -- The first u lines have claimed pixels.
 use mathlib.Core.Path.{refl, sym, ◌∙◌, subst}
-use Prim.Native.Nat.{◌-◌, zero-le}
+use Prim.Native.Nat.{zero-le}
 use native.Mathlib.Omega.{arith}
 use lib.IntN.{ℤ}
 use Rattle.gathering.specs.Claiming.{ClaimsLine}

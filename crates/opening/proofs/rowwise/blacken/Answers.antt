@@ -1,6 +1,6 @@
 -- The first y rows are 0.
 use mathlib.Core.Path.{refl}
-use Prim.Native.Nat.{ℕ, ◌-◌}
+use Prim.Native.Nat.{ℕ}
 use native.Mathlib.Omega.{arith}
 use Rattle.frame.proofs.Alongs.{row_ends}
 use Rattle.frame.proofs.Shapes.{framed}

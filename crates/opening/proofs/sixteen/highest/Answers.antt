@@ -7,7 +7,6 @@ use Rattle.frame.specs.Direction.{along}
 use Rattle.opening.specs.Frames.{open_frame_rules}
 use Rattle.opening.specs.Sixteen.{highest_rules}
 use Rattle.opening.proofs.Calls.{highest_rules_lem, highest_ready}
-use borrow.Author.Rules.{rules}
 use Rattle.opening.proofs.sixteen.highest.Goals.{After-refusal-a}
 use Rattle.opening.proofs.sixteen.highest.Goals as goal
 

@@ -1,6 +1,6 @@
 -- At each pixel stands the greatest over the first n directions, and beside it the first of them that reaches it.
 use mathlib.Core.Path.{◌≡◌, refl, sym, ap, ap₂, ◌∙◌}
-use Prim.Native.Nat.{ℕ, ◌-◌, min, max}
+use Prim.Native.Nat.{ℕ, min, max}
 use native.Mathlib.Omega.{arith}
 use lib.ListN.{length as size}
 use Rattle.lists.specs.Tables.{table}

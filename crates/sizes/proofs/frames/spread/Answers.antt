@@ -3,7 +3,7 @@ use mathlib.Core.Path.{◌≡◌, refl, sym, ap, ◌∙◌}
 use Prim.Native.Nat.{ℕ, suc, ◌-◌}
 use native.Mathlib.Nat.{le_refl}
 use native.Mathlib.Omega.{arith}
-use lib.ListN.{length, get_or, get_or-eq_default}
+use lib.ListN.{get_or, get_or-eq_default}
 use Rattle.sizes.specs.Steps.{spread_to}
 use Rattle.lists.proofs.Stores.{filled_none, filled-before, filled-start, filled-whole}
 use Rattle.sizes.proofs.Spreads.{spread_shared, spread_alone}

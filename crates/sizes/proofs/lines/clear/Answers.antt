@@ -1,6 +1,5 @@
 -- Zeros stand from the front up to i.
 use mathlib.Core.Path.{refl}
-use Prim.Native.Nat.{◌-◌}
 use native.Mathlib.Omega.{arith}
 use Rattle.lists.proofs.Stores.{filled_none, filled_more, filled_end, filled-whole}
 use borrow.Author.Rules.{rules}

@@ -1,6 +1,5 @@
 -- The rules, and then one row after the other, each under its own number.
 use mathlib.Core.Path.{◌≡◌, refl, ◌∙◌}
-use Prim.Native.Nat.{◌-◌}
 use native.Mathlib.Omega.{arith}
 use lib.ListN.{length}
 use Rattle.sizes.proofs.Rows.{rose_fits, rose_refused, rose_done, filling_start, filling_more, filling_end}

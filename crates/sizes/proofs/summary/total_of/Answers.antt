@@ -1,5 +1,5 @@
 -- The loop: the sum is that of the entries passed, and at most 2^53.
-use Prim.Native.Nat.{◌+◌, ◌-◌}
+use Prim.Native.Nat.{◌+◌}
 use native.Mathlib.Omega.{arith}
 use Rattle.lists.specs.Extremes.{total}
 use Rattle.sizes.proofs.Summaries.{total-next, total-part}

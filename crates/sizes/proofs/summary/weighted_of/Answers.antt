@@ -1,5 +1,5 @@
 -- The loop: the sum is that of the entries passed, and at most 2^53.
-use Prim.Native.Nat.{◌+◌, ◌-◌}
+use Prim.Native.Nat.{◌+◌}
 use native.Mathlib.Omega.{arith}
 use Rattle.sizes.specs.Summary.{weighted}
 use Rattle.sizes.proofs.Summaries.{over_by, within_by, weighted-next, weighted-part}
