@@ -1,15 +1,10 @@
 -- The tests are those of the definition, in its order.
 use mathlib.Core.Path.{◌≡◌, ◌∙◌}
-use mathlib.Core.Bool.{true, false}
+use mathlib.Core.Bool.{true}
 use native.Mathlib.Omega.{arith}
 use lib.Dec.{ltb}
-use borrow.Author.Tests.{lt-ltb, le-ltb, lt-leb, le-leb}
+use borrow.Author.Tests.{lt-ltb, lt-leb, le-leb}
 use Rattle.text.proofs.reading.goes_on.Goals as goal
-
-pub returns-then-value-eq0 : goal.returns-then-value-eq0
-returns-then-value-eq0 c =
-    let none : ltb 0 c.args.value ≡ false = le-ltb 0 c.args.value (omega arith) in
-    simp none
 
 pub returns-then-value-gt-LARGEST_NUMBER : goal.returns-then-value-gt-LARGEST_NUMBER
 returns-then-value-gt-LARGEST_NUMBER c =
