@@ -16,19 +16,16 @@ overflow_mul-width c = omega (arith, area_small (framed c.args.shape c.requires.
 pub claim_lines-requires : goal.claim_lines-requires
 claim_lines-requires c = c.requires
 
-pub returns-then-scratch-width : goal.returns-then-scratch-width
-returns-then-scratch-width c = c.claim_lines.ensures
-
 pub opened_into-requires : goal.opened_into-requires
 opened_into-requires c =
     let pre = c.requires in
     let high = (framed c.args.shape pre.ok.frame).high in
-    (pre.ok.frame, gapless-accepted pre.ok, pre.some, pre.source, omega (arith, gapless-needed c.args.shape high, c.if-scratch-width.false))
+    (pre.ok.frame, gapless-accepted pre.ok, pre.some, pre.source, omega (arith, gapless-needed c.args.shape high))
 
 pub claim_rows-requires : goal.claim_rows-requires
 claim_rows-requires c =
     let pre = c.requires in
-    (pre.ok.frame, omega (arith, c.opened_into.ensures.same, c.if-scratch-width.false), omega (arith, pre.target), omega (arith, pre.target))
+    (pre.ok.frame, omega (arith, c.opened_into.ensures.same), omega (arith, pre.target), omega (arith, pre.target))
 
 pub returns : goal.returns
 returns c =
