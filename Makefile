@@ -1,4 +1,4 @@
-# make test    the gate: the referee's cases, calls from a host, the host itself, the programs, then every proof, must-fail edit and program from nothing (rt ci)
+# make test    the gate: the referee's cases, calls from a host, the host itself, the programs, then every proof, must-fail edit and program (rt ci)
 # make demo    runs the library on the marked examples of its specification, both programs on a small frame, and the host's calls on a made picture of the chute (docs/demo.png)
 # make host    builds the host that opens PGM pictures, target/host/fibre, and the maker of a chute picture, target/host/chute
 # make bench   times it beside its peers, natively, in one run (bench/run --record keeps it under docs/bench/)
