@@ -1,4 +1,4 @@
-/* The fibre camera's frame opening, for a host written in C. Link with the static library of the crate `opening`. */
+/* The fibre camera's frame opening, for a host written in C. Link with the archive that `tools/archive opening` makes. */
 #ifndef FIBRE_H
 #define FIBRE_H
 

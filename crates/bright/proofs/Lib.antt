@@ -8,7 +8,7 @@
 --   Steps       the parts of a step of the generator, and what is to come after it
 --   Outers      where a run ends, the run then on top goes on to be the next stretch of the list that does not start after it
 --   Counting    how many stretches a line has, from the levels alone; no more than pixels
---   Again       a slice that is lent again to a call and comes back; for the walk of the listing
+--   Again       a slice that is lent again to a call and comes back
 --   Listed      the list holds every stretch, and nothing else
 --   Order       it is in order, and holds each once
 --   Nest        a base is the level of the shortest other stretch that encloses

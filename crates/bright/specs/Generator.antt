@@ -1,17 +1,17 @@
 -- The generator: a reading of a line stands at a bookmark, its open runs in the lent scratch, and each step finds the next stretch.
---   pair_at m i           the number of two bytes at i, the low one first
---   put_pair m i v        m with the number v in two bytes at i, the low one first
+--   pair_at m i          the number of two bytes at i, the low one first
+--   put_pair m i v       m with the number v in two bytes at i, the low one first
 --   Layout               how a run lies in the scratch: which run is number i of the scratch m. Every run has four bytes, whatever the width of a pixel
 --   run8                 the layout for pixels of eight bits: two bytes of start, one of level, one free
---   stack_of run m d      the first d runs of the scratch m, the last on top
+--   stack_of run m d     the first d runs of the scratch m, the last on top
 --   is_ready n room p    a reading of n pixels can stand at p, with room bytes of scratch
 --   beginning            the bookmark where a reading begins
 --   to_come run f m p    the stretches of the line f still to come at the bookmark p, with the scratch m
 --   coming run f m p     the same; nothing where no reading can stand at p
---   stop_at run f m p     where the step from p stops
---   step_of s             what a step that stops at s hands back: of the runs open their number
+--   stop_at run f m p    where the step from p stops
+--   step_of s            what a step that stops at s hands back: of the runs open their number
 --   no_step p            no stretch is found, and the bookmark is p
---   step_at run f m p   what the step from p hands back; no_step p where no reading can stand there
+--   step_at run f m p    what the step from p hands back; no_step p where no reading can stand there
 --   Follows run f m p m' r    what `next` hands back and leaves
 -- Laws: bright/proofs/Steps (coming-beginning: from the beginning on every stretch is to come; coming-next: the stretch found is the first to come, and the others come from
 -- the bookmark handed back; coming-none: where none is found, none is to come).

@@ -11,7 +11,7 @@
 --   Notes                what `next_noted` hands back and leaves
 --   Links                what `link` hands back and leaves: the place last seen at the encloser's start, or that of the last record itself; and this place seen at its own start
 --   NotesAll             what `note_all` hands back and leaves: the starts of a line's stretches, and those of their enclosers
---   start_of a            where the reading of a listing with the answer a starts; on refusal a bookmark at which no reading can stand, so that `next` finds nothing
+--   start_of a           where the reading of a listing with the answer a starts; on refusal a bookmark at which no reading can stand, so that `next` finds nothing
 --   finished a k         the answer of a listing that has come to its end, with k stretches
 use Rattle.std.specs.Prelude.{◌≡◌, true, cond, List, ℕ, suc, ◌+◌, ◌-◌, ◌*◌, ◌≤◌, ◌<◌, eqb, length, get_or}
 use Rattle.lists.specs.Stores.{Filled}

@@ -5,7 +5,7 @@
 --   darker l xs          each of the pixels xs is darker than l
 --   level_of f a b       the darkest of the pixels a to b − 1
 --   is_stretch f a b     the pixels a to b − 1 are a stretch
---   base_of f a b         the brighter of the neighbours
+--   base_of f a b        the brighter of the neighbours
 --   stretch_of f a b     the four numbers of the stretch from a to b
 --   long s               how many pixels a stretch has
 --   no_stretch           what stands for a stretch where there is none

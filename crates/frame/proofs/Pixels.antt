@@ -3,7 +3,7 @@
 --   line_interval            a line's pixels are an interval of the major coordinate; pixels-most: no more than the longer side
 --   number, first-is, count-is    the number of a line's index, the first number and the count of the lines
 --   pixels-past              a line past the last has no pixels; empty-none, empty-some: what no pixels say
---   line_among, among_line  the numbers of the lines that a frame has are an interval: line_count of them from first_line on
+--   line_among, among_line   the numbers of the lines that a frame has are an interval: line_count of them from first_line on
 -- Assumes nothing.
 use mathlib.Core.Path.{◌≡◌, refl, sym, ap, ap₂, ◌∙◌, subst}
 use mathlib.Core.Bool.{Bool, true, false, cond, true≢false}

@@ -1,5 +1,5 @@
 -- A pixel among others, and on its line of the sweep.
---   index_at, index_in_lem       where a pixel stands in a list
+--   index_at, index_in_lem     where a pixel stands in a list
 --   Spot, spot_of, spot-cell   each pixel of a frame is on a line of the sweep, at a major coordinate; its byte
 --   spot-line, spot_index      its line's number, and its index among the line's pixels
 -- Assumes nothing.

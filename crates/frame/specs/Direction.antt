@@ -1,6 +1,6 @@
 -- Directions (document 01, 'Directions and their lines').
 --   dir p q           the pair (p, q)
---   inRange d         each of its numbers is −255 to 255
+--   in_range d        each of its numbers is −255 to 255
 --   is_direction d    it is in range, and not both numbers are 0
 --   shallow d         it is shallow; else it is steep
 --   goes_down d       its lines go down the rows, one pixel a row: it is steep or a diagonal

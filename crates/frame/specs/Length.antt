@@ -2,7 +2,7 @@
 --   square n             n²
 --   reaches a b L k      k pixels of a direction with the numbers a and b, signs apart, are at least as long as L pixels along a row
 --   first_from test k n  the first number from k on that passes the test, and k + n where none of the n before it does
---   count_for a b L       the smallest count from 1 up that reaches; L itself does, so L − 1 tests are enough
+--   count_for a b L      the smallest count from 1 up that reaches; L itself does, so L − 1 tests are enough
 --   pixels_for d L       the same of a direction: the pixels along its lines that a length L stands for
 --   is_measured d L      d is a direction, and L a length that a call on frames may ask for
 --   pixels_or_none d L   what `pixels_for` hands back

@@ -1,20 +1,20 @@
 -- The lines of a frame in a direction (document 01, 'Directions and their lines').
---   r a b i            how far a line has moved aside at i, rounded
+--   r a b i             how far a line has moved aside at i, rounded
 --   line_of d x y       the number of the line that pixel (x, y) is on
---   eq_z j k           the line numbers j and k are the same
---   at x y             the pixel (x, y)
---   pixel_on d k x y   the pixel (x, y) where it is on line k, else nothing
---   pixels sh d k      the pixels of line k of a frame of shape sh, in line order
---   no_line sh d k     the frame has no such line: it has no pixels (empty)
---   place sh c         the byte of pixel c
---   gathered f sh d k  the bytes of line k in the frame f, in line order
+--   eq_z j k            the line numbers j and k are the same
+--   at x y              the pixel (x, y)
+--   pixel_on d k x y    the pixel (x, y) where it is on line k, else nothing
+--   pixels sh d k       the pixels of line k of a frame of shape sh, in line order
+--   no_line sh d k      the frame has no such line: it has no pixels (empty)
+--   place sh c          the byte of pixel c
+--   gathered f sh d k   the bytes of line k in the frame f, in line order
 --   line_read f sh d k  what a call reads of line k
---   frame_light f sh   the total of a frame's pixels
---   climb sh d         how far a line moves aside from one end of the frame to the other
+--   frame_light f sh    the total of a frame's pixels
+--   climb sh d          how far a line moves aside from one end of the frame to the other
 --   first_line, line_count  the lowest line number of a frame, and how many lines it has; lines_of has both
 --   line_number sh d u  the number of line u, counted from the first
---   same_pixel c b     c and b are the same pixel
---   index_in c cs      where the pixel c stands in a list of pixels, counted from 0
+--   same_pixel c b      c and b are the same pixel
+--   index_in c cs       where the pixel c stands in a list of pixels, counted from 0
 -- Laws: frame/proofs/Pixels, Spots, Opposites, Light.
 use Rattle.std.specs.Prelude.{Bool, true, false, cond, ◌&&◌, List, [], ◌∷◌, map, ℕ, suc, ◌+◌, ◌-◌, ◌*◌, ◌/◌, eqb, ltb, get_or, ℤ, pos, negsuc, neg_ℤ, nat_abs, ◌+ℤ◌, ◌-ℤ◌, ◌*ℤ◌}
 use Rattle.lists.specs.Tables.{each, keep, table}

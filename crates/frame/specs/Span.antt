@@ -6,8 +6,8 @@
 --   spanning s u         both, as a start and a count
 --   Spans s u from count      line u has a pixel at the count major coordinates from `from` on, and at no other
 --   Indexed low k there at    the index of line number k, where there is one
---   index_of low k        the index of line number k
---   track_at s u        where line u is; no_track: nowhere
+--   index_of low k       the index of line number k
+--   track_at s u         where line u is; no_track: nowhere
 --   track_of sh d k      where line number k of a frame is; nowhere where there is no such line, or rule 1 or 2 refuses
 -- Laws: frame/proofs/Spans, Tracks.
 use Rattle.std.specs.Prelude.{◌≡◌, Bool, true, false, not, cond, ◌&&◌, ℕ, suc, ◌+◌, ◌-◌, ◌*◌, ◌/◌, ◌≤◌, ◌<◌, min, ltb, eqb, ℤ, pos, negsuc}

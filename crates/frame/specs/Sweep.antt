@@ -2,7 +2,7 @@
 -- A sweep's majors and minors are how many of each the frame has; its pace and sidestep are how many bytes it is from one to the next.
 -- A line has an index from 0 up: its number is the index less `low`.
 --   sweep_of sh d      the sweep of a frame in a direction (sweeping: by its numbers)
---   sweep_for sh d    the same; no_sweep where rule 1 or 2 refuses them
+--   sweep_for sh d     the same; no_sweep where rule 1 or 2 refuses them
 --   shift s i          the index of the line of the pixel with major coordinate i and minor coordinate 0
 --   shift_at s i       the same; 0 where the slope is none that a direction has, or i is past every frame
 --   low s              how far below 0 the lowest line number is

@@ -1,6 +1,6 @@
 -- The call `row`: the part of the caller's slice that it lends back.
---   has_row sh y n        rules 1 and 5 accept a frame of shape sh in a slice of n bytes, and it has a row y
---   row_of f sh y         the pixels of row y of the frame f; none where there is no such row
+--   has_row sh y n       rules 1 and 5 accept a frame of shape sh in a slice of n bytes, and it has a row y
+--   row_of f sh y        the pixels of row y of the frame f; none where there is no such row
 --   row_from f sh y      how many bytes into the frame they begin; 0 where there is no such row
 --   LendsRow src sh y part    what `row` promises: the part that it lends back of the slice src
 -- A lent slice is the memory that it stands in (`ref_ptr.0`), where it begins there (`ref_ptr.1`), and the bytes that it holds (`now`).

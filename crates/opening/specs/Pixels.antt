@@ -2,9 +2,9 @@
 -- computes on a frame that is written out.
 --   opened_pixel f sh d k x y  pixel (x, y) of the frame f opened in direction d with windows of k pixels
 --   in_direction f sh L x y n  pixel (x, y) of the frame f opened in the numbered direction n, with the pixels that the length L stands for there
---   highest_at f sh L x y     the greatest of these over the sixteen
---   first_greatest v n        the lowest number below n at which v is greatest
---   direction_at f sh L x y   the lowest direction number that reaches the highest
+--   highest_at f sh L x y      the greatest of these over the sixteen
+--   first_greatest v n         the lowest number below n at which v is greatest
+--   direction_at f sh L x y    the lowest direction number that reaches the highest
 -- Laws: opening/proofs/Along, Inplace, Lines, Leaders.
 use Rattle.std.specs.Prelude.{List, ℕ, eqb, get_or}
 use Rattle.lists.specs.Tables.{table, those}

@@ -7,7 +7,7 @@
 --   Goes up at near far n      a pass that goes upward where `up`, else downward, finds those from `near` on and those from `far` on as they were
 --   Fits marks at near far n size  the rows are in a buffer of size pixels, and each pixel has its mark
 --   Parted at near far n       a pass that goes upward where `near` is `at` or behind it, else downward, finds those from `far` on as they were
---   block_at n k up             where block k of a row of n pixels begins, in the order of the pass
+--   block_at n k up            where block k of a row of n pixels begins, in the order of the pass
 --   treated_from, treated_to   which pixels of the row the first k blocks are: from the one up to, not including, the other
 --   Meets, MeetsBent           `meet` and `meet_bent`: where the rows fit, each pixel meets its partner; else nothing changes
 --   Clears, ClearsBent         `blacken` and `blacken_bent`: pixels become 0, all of them or the marked ones

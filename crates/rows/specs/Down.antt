@@ -3,7 +3,7 @@
 --   pixel_of s f i u              line u's pixel in row i of the frame f, 0 where it has none
 --   beside g from N a b k         the same for pixel k of a row where the lines stand a aside: its line's pixel in the row that starts at `from`, where they stand b aside
 --   LevelsAre s φ m               m has the level φ u for each line u
---   start_at, shifts               where the row after t others starts, and how far aside the lines stand there: an erosion goes from the first row on, a dilation back
+--   start_at, shifts              where the row after t others starts, and how far aside the lines stand there: an erosion goes from the first row on, a dilation back
 --   extreme darker X t w          the darkest, or the brightest, of X t and the w next
 --   extreme_of s darker f u t w   the same of line u's pixels in the frame f, from the row on that comes after t others
 --   beyond s darker f L end t u   the same of the part of row t's window of L rows that is from `end` on, as far as there are rows

@@ -1,11 +1,11 @@
 -- Rows of a frame, the lines that cross them, and what a pass leaves. Pixel (i, k) has the major coordinate i, which ascends along a line, and the minor
 -- coordinate k. It stands at byte A i k, and its line has the index k + h i; the definitions serve any such A and h.
---   byte_of s i k           the byte of pixel (i, k) in the frame of a sweep
+--   byte_of s i k          the byte of pixel (i, k) in the frame of a sweep
 --   lane_at h A N g u i    line u's pixel at the major coordinate i of the frame g, which has N minor coordinates; 0 where it has none
 --   lane h A N M g u       these, at each of the M major coordinates
 --   PixelsAre A M N F      every pixel is F i k; every other byte is as it was
---   row_at forth M t        of M rows the one that comes after t others: from the first on where `forth`, else from the last back
---   rows_by S               the starts of rows that stand S apart
+--   row_at forth M t       of M rows the one that comes after t others: from the first on where `forth`, else from the last back
+--   rows_by S              the starts of rows that stand S apart
 --   RowsAre st N lo hi F   the rows lo up to, not including, hi, which start at st i, have the pixels F i k; every other byte is as it was
 --   OpensLines s L         every line of the sweep s is opened with windows of L pixels
 --   can_open sh d L n      rules 1, 2 and 5 accept the frame, the direction and a buffer of n bytes, and L is not 0

@@ -1,6 +1,6 @@
 -- What the private parts keep to.
 --   zeros n              a cleared sums slice of n entries
---   entry_of K l          the entry of a stretch of l pixels: its length's bin, or the rest where there is none
+--   entry_of K l         the entry of a stretch of l pixels: its length's bin, or the rest where there is none
 --   entry_light K j ss      the light of those stretches of ss whose entry is j
 --   lit s x              the sums slice s with the light of the stretch x added to its entry
 --   Sound s              a stretch has pixels, and its level is not below its base

@@ -1,6 +1,6 @@
 -- The summary of bins and rest (document 01, 'Stretches and size sums'), and the call `summarize`.
 --   bins_of s            the bins of a sums slice
---   rest_of s             its rest
+--   rest_of s            its rest
 --   weighted n s         the total of a list, each entry multiplied by its length, where the first entry's length is n
 --   exactest             the largest number up to which every whole number is a float
 --   float n              a whole number as a float

@@ -1,7 +1,7 @@
 -- Size sums of lines and frames (document 01, 'Stretches and size sums').
 --   sums_of sum K            bins and rest, with K bins, where `sum L` is the sum for the length L
 --   line_sums f K            bins and rest of a line
---   line_at f sh d u          the line number u of a frame, the lowest line being number 0
+--   line_at f sh d u         the line number u of a frame, the lowest line being number 0
 --   pixel_sum f sh d k       the total of a frame's pixels, opened in a direction with windows of k pixels
 --   frame_sum f sh d L       the sum for a length of a frame in a direction: with the pixels that the length stands for there
 --   frame_sums f sh d K      bins and rest of a frame in a direction

@@ -1,5 +1,5 @@
 -- The stretches of a line, found one after the other, and the `Z` line of each, with the place of its encloser.
---   lines_from f i             the `Z` lines of the line f, from the record at i on
+--   lines_from f i            the `Z` lines of the line f, from the record at i on
 --   Printing f es m p i       where such a reading of f stands, with the enclosers' places in es; printing_start
 --   printing_none             the next step finds no stretch: no `Z` line is left
 --   printing_inside, -few     it finds one: the place of its encloser stands at i of es; i is small

@@ -2,11 +2,11 @@
 --   frame_text d w h ps    the input text of a frame: direction number, width, height and pixels, row by row
 --   rows_text h w ps       its rows
 --   longest_input          the most bytes of an input
---   head_of s               the first two lines of a text: direction number, width and height
+--   head_of s              the first two lines of a text: direction number, width and height
 --   direction_in s, width_in s, height_in s  the three
 --   rows_in s              the rows that follow them
 --   input_rules s room     the rules of the call
---   input_of s room         what the call hands back
+--   input_of s room        what the call hands back
 -- Laws: text/proofs/Inputs (frame-read: a text in which `head_of` and `rows_in` find lines and rows is a frame's; frame-written: in the text of a frame they do).
 use Rattle.std.specs.Prelude.{◌≡◌, cond, not, List, [], ◌∷◌, ◌++◌, ℕ, zero, suc, ◌*◌, ltb, length, get_or, take, drop}
 use Rattle.lists.specs.Stores.{front}

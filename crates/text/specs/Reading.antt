@@ -3,16 +3,16 @@
 --   is_digit c             c is a decimal digit
 --   goes_on v c            c is one more digit of a number whose value so far is v
 --   Numeral, Values        a number and what follows it; a list of numbers and what follows them
---   numeral, valued      such a one that is there; no_numeral, no_values: one that is not
+--   numeral, valued        such a one that is there; no_numeral, no_values: one that is not
 --   number_on v s          the number whose value so far is v, and which goes on at s
---   number_of s             the number at the front of s
+--   number_of s            the number at the front of s
 --   starts b s             s starts with the byte b
---   field_of most s         a tab, and a number of at most `most`
---   fields_of most n s      n fields
---   line_of b most n s      a line: the letter b, n fields and the line feed
---   rows_of h w s           h lines of w pixels, and nothing after them
+--   field_of most s        a tab, and a number of at most `most`
+--   fields_of most n s     n fields
+--   line_of b most n s     a line: the letter b, n fields and the line feed
+--   rows_of h w s          h lines of w pixels, and nothing after them
 --   before vs r            the numbers vs before those of r
---   at_most, ended          a number that is in its range; numbers that a line feed follows
+--   at_most, ended         a number that is in its range; numbers that a line feed follows
 -- Laws: text/proofs/Readings, Goings (place by place), Inputs (what is found is there as text, and what is there as text is found).
 use Rattle.std.specs.Prelude.{Bool, true, false, cond, ◌&&◌, List, [], ◌∷◌, ◌++◌, ℕ, zero, suc, ◌+◌, ◌-◌, ◌*◌, eqb, leb, ltb, drop}
 use Rattle.text.specs.Lines.{tab, feed}

@@ -1,9 +1,9 @@
 -- The sums text (document 01, 'The two programs'), and the call `sums_text`.
---   head_fields d s     direction and count of bins
---   bin_fields s i      a bin's length and sum
---   rest_fields s       the rest
---   bins_text s n       the lines of the first n bins
---   sums_text d s       the whole text
+--   head_fields d s      direction and count of bins
+--   bin_fields s i       a bin's length and sum
+--   rest_fields s        the rest
+--   bins_text s n        the lines of the first n bins
+--   sums_text d s        the whole text
 --   text_rules d s room  the rules of the call
 -- Laws: text/proofs/Texts.
 use Rattle.std.specs.Prelude.{◌≡◌, List, [], ◌∷◌, ◌++◌, ℕ, ◌+◌, ◌-◌, ltb, length, get_or}

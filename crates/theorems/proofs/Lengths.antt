@@ -1,5 +1,5 @@
 -- Demand 2, lengths in frame calls: how many pixels a length stands for. The facts that a count must meet stand in specs/Equation.
---   stands-is, stands-alone         what `pixels_for` computes meets them; no other count does
+--   stands-is, stands-alone          what `pixels_for` computes meets them; no other count does
 --   stands_one, stands-within        a length of 1 is a pixel; no length stands for more pixels than itself
 --   stands-along, stands-across      along and across it counts pixels
 --   stands-next                      the next length stands for as many pixels, or one more

@@ -3,7 +3,7 @@
 --   erosion_rest, dilation_rest, opening_rest    what follows them is unchanged
 --   no_brighter                                  no pixel of an opened line is brighter than the pixel it came from
 --   frame_is                                     each pixel of an opened frame, on its own line; frame-lines: so each line is opened
---   opened-on                                   the same of the definition `opened_pixel`, which the next four speak of
+--   opened-on                                    the same of the definition `opened_pixel`, which the next four speak of
 --   highest_is, direction-is                     each pixel of the two frames that `highest` leaves: the highest over sixteen directions, and its direction
 --   direction-reaches, direction-lowest          the two frames together: the opening in the direction stored is the brightness stored, and a lower number's is below it
 --   frame_no_brighter, highest_no_brighter       no pixel of an opened frame, nor of the highest opening, is brighter than the pixel it came from

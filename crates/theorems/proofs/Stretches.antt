@@ -1,6 +1,6 @@
 -- Demand 3: what a done listing has put into the table, from its contract alone.
 --   listing_done          a line of 1 to 4,096 pixels and a table and scratch with room: the call is done; room-enough: entries for every pixel are room
---   in_table               the stretches of the first entries of the table, as many as the figure says; listed-is: they are the bright stretches
+--   in_table              the stretches of the first entries of the table, as many as the figure says; listed-is: they are the bright stretches
 --   holds-every           the list holds every run whose darkest pixel outshines its neighbours; level-is: what 'its darkest pixel' is
 --   whole-line            the whole line is always one of them
 --   nothing_else          and nothing else

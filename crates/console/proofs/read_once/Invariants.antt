@@ -1,3 +1,4 @@
+-- At most as many tries as there may be, and the buffer keeps its length.
 use Rattle.std.proofs.Common.{◌-◌}
 use Rattle.console.proofs.read_once.Given as goal
 

@@ -1,3 +1,4 @@
+-- What is counted stands in the buffer; each turn reads one byte at least.
 use Rattle.std.proofs.Common.{length, ◌-◌, ◌≤◌}
 use Rattle.console.proofs.receive.Given as goal
 

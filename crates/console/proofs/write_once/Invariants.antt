@@ -1,3 +1,4 @@
+-- At most as many tries as there may be.
 use Rattle.std.proofs.Common.{◌-◌}
 use Rattle.console.proofs.write_once.Given as goal
 

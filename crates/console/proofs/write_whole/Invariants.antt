@@ -1,3 +1,4 @@
+-- What is done stands in the text; each turn writes one byte at least.
 use Rattle.std.proofs.Common.{length, ◌-◌, ◌≤◌}
 use Rattle.console.proofs.write_whole.Given as goal
 

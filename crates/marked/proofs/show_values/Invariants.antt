@@ -1,3 +1,4 @@
+-- Each value is one of the slice's.
 use Rattle.std.proofs.Common.{length, ◌-◌}
 use Rattle.marked.proofs.show_values.Given as goal
 

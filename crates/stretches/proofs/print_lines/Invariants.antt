@@ -1,3 +1,4 @@
+-- The lines from the first on, up to their count.
 use Rattle.std.proofs.Common.{◌-◌}
 use Rattle.stretches.proofs.print_lines.Given as goal
 

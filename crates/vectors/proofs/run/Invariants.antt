@@ -1,3 +1,4 @@
+-- The turns are counted, and no case changes a buffer's length.
 use Rattle.std.proofs.Common.{◌-◌}
 use Rattle.vectors.proofs.run.Given as goal
 

@@ -1,4 +1,4 @@
--- The counts of the lengths to i stand at the front.
+-- Why what Invariants.antt says lasts, and gives what the function promises.
 use mathlib.Core.Path.{refl, sym}
 use Prim.Native.Nat.{suc}
 use native.Mathlib.Numerals.{add-one}

@@ -1,3 +1,4 @@
+-- The counts of the lengths to i stand at the front.
 use mathlib.Core.Path.{◌≡◌}
 use Prim.Native.Nat.{ℕ, suc, ◌-◌, ◌≤◌}
 use lib.ListN.{length}

@@ -1,4 +1,4 @@
--- The count lies above `low`, and not above `high`.
+-- Why what Invariants.antt says lasts, and gives what the function promises.
 use mathlib.Core.Path.{sym, ◌∙◌}
 use native.Mathlib.Omega.{arith}
 use Rattle.frame.proofs.Lengths.{count-some, count_most, count-below, count-above}

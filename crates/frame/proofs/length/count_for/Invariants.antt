@@ -1,3 +1,4 @@
+-- The count lies above `low`, and not above `high`.
 use Prim.Native.Nat.{◌-◌, ◌≤◌, ◌<◌}
 use Rattle.frame.specs.Length.{count_for}
 use Rattle.frame.proofs.length.count_for.Given as goal

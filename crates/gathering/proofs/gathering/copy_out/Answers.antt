@@ -1,4 +1,4 @@
--- The first i pixels of the line are at the front of the destination.
+-- Why what Invariants.antt says lasts, and gives what the function promises.
 use mathlib.Core.Path.{◌≡◌, sym, ap}
 use mathlib.Core.List.{List}
 use Prim.Native.Nat.{ℕ, ◌+◌, ◌≤◌}

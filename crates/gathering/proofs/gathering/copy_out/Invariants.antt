@@ -1,3 +1,4 @@
+-- The first i pixels of the line are at the front of the destination.
 use Prim.Native.Nat.{ℕ, ◌+◌, ◌-◌, ◌≤◌}
 use lib.ListN.{get_or}
 use Rattle.lists.specs.Stores.{Filled}

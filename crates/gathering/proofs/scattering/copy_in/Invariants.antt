@@ -1,3 +1,4 @@
+-- The first i values are at their pixels.
 use mathlib.Core.Path.{◌≡◌}
 use Prim.Native.Nat.{◌-◌, ◌≤◌}
 use lib.ListN.{length}

@@ -1,4 +1,4 @@
--- The line holds its dilation by windows of w pixels.
+-- Why what Invariants.antt says lasts, and gives what the function promises.
 use mathlib.Core.Path.{subst}
 use Prim.Native.Nat.{ℕ}
 use native.Mathlib.Omega.{arith}

@@ -1,3 +1,4 @@
+-- The line holds its dilation by windows of w pixels.
 use mathlib.Core.Path.{◌≡◌}
 use Prim.Native.Nat.{◌-◌, ◌≤◌}
 use lib.ListN

@@ -1,4 +1,4 @@
--- The first u lines have claimed pixels.
+-- Why what Invariants.antt says lasts, and gives what the function promises.
 use mathlib.Core.Path.{refl, sym, ◌∙◌, subst}
 use Prim.Native.Nat.{zero-le}
 use native.Mathlib.Omega.{arith}

@@ -1,3 +1,4 @@
+-- The first u lines have claimed pixels.
 use mathlib.Core.Path.{◌≡◌}
 use Prim.Native.Nat.{◌-◌, ◌≤◌}
 use lib.ListN.{length as size}

@@ -1,3 +1,4 @@
+-- The first y rows have claimed pixels.
 use Prim.Native.Nat.{ℕ, ◌+◌, ◌-◌, ◌*◌, ◌≤◌, max}
 use lib.ListN.{get_or}
 use Rattle.frame.specs.Shape.{shape}

@@ -1,3 +1,4 @@
+-- The first y rows are 0.
 use Prim.Native.Nat.{ℕ, ◌-◌, ◌≤◌}
 use Rattle.frame.specs.Shape.{shape}
 use Rattle.frame.specs.Painted.{Painted}

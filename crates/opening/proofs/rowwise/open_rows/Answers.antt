@@ -1,4 +1,4 @@
--- The first y rows are painted.
+-- Why what Invariants.antt says lasts, and gives what the function promises.
 use mathlib.Core.Path.{◌≡◌, sym, ap, ◌∙◌}
 use mathlib.Core.List.{List}
 use Prim.Native.Nat.{ℕ, ◌*◌}

@@ -1,3 +1,4 @@
+-- The first y rows are painted.
 use Prim.Native.Nat.{ℕ, ◌-◌, ◌≤◌}
 use lib.ListN.{get_or}
 use Rattle.line.specs.Windows.{opened}

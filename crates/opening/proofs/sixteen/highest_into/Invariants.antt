@@ -1,3 +1,4 @@
+-- At each pixel stands the greatest over the first n directions, and beside it the first of them that reaches it.
 use mathlib.Core.Path.{◌≡◌}
 use Prim.Native.Nat.{ℕ, ◌-◌, ◌≤◌}
 use lib.ListN.{length as size}

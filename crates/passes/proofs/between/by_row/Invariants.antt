@@ -1,3 +1,4 @@
+-- Byte by byte: what is read is never written, but for the byte that meets its partner.
 use Prim.Native.Nat.{ℕ, ◌+◌, ◌-◌, ◌≤◌}
 use lib.ListN.{get_or}
 use Rattle.lists.specs.Stores.{Filled}

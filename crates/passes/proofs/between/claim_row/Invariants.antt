@@ -1,3 +1,4 @@
+-- The first i pixels are claimed: what is read is never written, but for those that are claimed.
 use mathlib.Core.Bool.{cond}
 use Prim.Native.Nat.{ℕ, ◌+◌, ◌-◌, ◌≤◌, max}
 use lib.Dec.{ltb}

@@ -1,4 +1,4 @@
--- The first j values of the block are in t.
+-- Why what Invariants.antt says lasts, and gives what the function promises.
 use Prim.Native.Nat.{zero-le}
 use native.Mathlib.Omega.{arith}
 use Rattle.lists.proofs.Stores.{filled_none, filled_more}

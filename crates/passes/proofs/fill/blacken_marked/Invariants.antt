@@ -1,3 +1,4 @@
+-- The first i bytes are done; what a turn reads of its own byte is as it was.
 use mathlib.Core.Bool.{cond}
 use Prim.Native.Nat.{ℕ, ◌+◌, ◌-◌, ◌≤◌}
 use lib.Dec.{eqb}

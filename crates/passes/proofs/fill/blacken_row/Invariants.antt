@@ -1,3 +1,4 @@
+-- Byte by byte.
 use Prim.Native.Nat.{ℕ, ◌+◌, ◌-◌, ◌≤◌}
 use Rattle.lists.specs.Stores.{Filled}
 use Rattle.passes.proofs.fill.blacken_row.Given as goal

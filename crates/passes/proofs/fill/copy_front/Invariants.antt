@@ -1,3 +1,4 @@
+-- Byte by byte.
 use Prim.Native.Nat.{ℕ, ◌-◌, ◌≤◌}
 use lib.ListN.{get_or}
 use Rattle.lists.specs.Stores.{Filled}

@@ -1,3 +1,4 @@
+-- Block by block: what is still to be read is as it was.
 use Prim.Native.Nat.{◌+◌, ◌-◌, ◌≤◌}
 use Rattle.lists.specs.Stores.{Filled}
 use Rattle.passes.specs.Passes.{op, straight, met, treated_from, treated_to}

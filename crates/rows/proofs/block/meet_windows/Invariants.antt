@@ -1,3 +1,4 @@
+-- The rows before `from` are done; those behind are as they were.
 use mathlib.Core.Path.{◌≡◌}
 use Prim.Native.Nat.{◌-◌, min}
 use lib.ListN

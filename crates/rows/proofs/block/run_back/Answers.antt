@@ -1,4 +1,4 @@
--- Rows from t on have met those that come next in the block.
+-- Why what Invariants.antt says lasts, and gives what the function promises.
 use Prim.Native.Nat.{◌-◌}
 use native.Mathlib.Omega.{arith}
 use Rattle.rows.proofs.Rowwise.{rows_start}

@@ -1,3 +1,4 @@
+-- Rows from t on have met those that come next in the block.
 use Prim.Native.Nat.{ℕ, ◌+◌, ◌-◌, ◌≤◌, ◌<◌}
 use Rattle.rows.specs.Rows.{RowsAre}
 use Rattle.rows.specs.Down.{start_at, shifts, extreme_of}

@@ -1,4 +1,4 @@
--- The levels are those of the rows behind the block that belong to the window of row t; the rows before it have met theirs.
+-- Why what Invariants.antt says lasts, and gives what the function promises.
 use mathlib.Core.Path.{refl, ◌∙◌}
 use Prim.Native.Nat.{◌+◌, ◌-◌}
 use native.Mathlib.Omega.{arith}

@@ -1,3 +1,4 @@
+-- The levels are those of the rows behind the block that belong to the window of row t; the rows before it have met theirs.
 use mathlib.Core.Path.{◌≡◌}
 use Prim.Native.Nat.{ℕ, ◌+◌, ◌-◌, ◌≤◌, ◌<◌}
 use lib.ListN

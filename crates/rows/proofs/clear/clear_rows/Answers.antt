@@ -1,4 +1,4 @@
--- The rows from `from` up to i are 0.
+-- Why what Invariants.antt says lasts, and gives what the function promises.
 use native.Mathlib.Omega.{arith}
 use lib.ListN.{length}
 use mathlib.Core.Path.{refl}

@@ -1,3 +1,4 @@
+-- The rows from `from` up to i are 0.
 use Prim.Native.Nat.{ℕ, ◌-◌, ◌≤◌}
 use Rattle.rows.specs.Rows.{rows_by, RowsAre}
 use Rattle.rows.proofs.clear.clear_rows.Given as goal

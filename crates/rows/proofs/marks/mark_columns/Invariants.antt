@@ -1,3 +1,4 @@
+-- The marks of the first x columns are made, and the rest at x is known.
 use mathlib.Core.Path.{◌≡◌}
 use Prim.Native.Nat.{ℕ, ◌-◌, ◌≤◌}
 use lib.ListN.{length}

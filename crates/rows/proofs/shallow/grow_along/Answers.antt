@@ -1,4 +1,4 @@
--- The frame holds what windows of w columns make of its lines, and the columns past the edge are dark.
+-- Why what Invariants.antt says lasts, and gives what the function promises.
 use mathlib.Core.Path.{refl, subst, ◌∙◌}
 use Prim.Native.Nat.{ℕ}
 use native.Mathlib.Omega.{arith}

@@ -1,3 +1,4 @@
+-- The frame holds what windows of w columns make of its lines, and the columns past the edge are dark.
 use mathlib.Core.Path.{◌≡◌}
 use Prim.Native.Nat.{◌-◌, ◌≤◌}
 use lib.ListN

@@ -1,4 +1,4 @@
--- The rows up to t are done, and those past it are as they were.
+-- Why what Invariants.antt says lasts, and gives what the function promises.
 use native.Mathlib.Omega.{arith}
 use Rattle.rows.proofs.Rowwise.{parted_order, rows_none, rows_end}
 use Rattle.rows.proofs.Slants.{dark-past, slants_more}

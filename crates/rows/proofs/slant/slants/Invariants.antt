@@ -1,3 +1,4 @@
+-- The rows up to t are done, and those past it are as they were.
 use Prim.Native.Nat.{◌-◌, ◌≤◌}
 use Rattle.rows.specs.Rows.{RowsAre}
 use Rattle.rows.specs.Slants.{row_start, met_at}

@@ -1,3 +1,4 @@
+-- The lines below u are added up in the slice.
 use mathlib.Core.Path.{◌≡◌}
 use Prim.Native.Nat.{◌-◌, ◌≤◌}
 use lib.ListN.{length}

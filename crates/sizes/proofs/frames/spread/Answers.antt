@@ -1,4 +1,4 @@
--- The entries from i on are those of the lengths; those before it still are by pixels.
+-- Why what Invariants.antt says lasts, and gives what the function promises.
 use mathlib.Core.Path.{◌≡◌, refl, sym, ap, ◌∙◌}
 use Prim.Native.Nat.{ℕ, suc, ◌-◌}
 use native.Mathlib.Nat.{le_refl}

@@ -1,3 +1,4 @@
+-- The entries from i on are those of the lengths; those before it still are by pixels.
 use mathlib.Core.Path.{◌≡◌}
 use Prim.Native.Nat.{◌≤◌}
 use lib.ListN.{length, get_or}

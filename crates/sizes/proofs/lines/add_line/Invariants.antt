@@ -1,3 +1,4 @@
+-- Each turn the next stretch goes to its entry, until none is to come.
 use mathlib.Core.Path.{◌≡◌}
 use lib.ListN.{length}
 use Rattle.bright.specs.Generator.{run8, coming}

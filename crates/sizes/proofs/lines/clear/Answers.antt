@@ -1,4 +1,4 @@
--- Zeros stand from the front up to i.
+-- Why what Invariants.antt says lasts, and gives what the function promises.
 use mathlib.Core.Path.{refl}
 use native.Mathlib.Omega.{arith}
 use Rattle.lists.proofs.Stores.{filled_none, filled_more, filled_end, filled-whole}

@@ -1,3 +1,4 @@
+-- Zeros stand from the front up to i.
 use Prim.Native.Nat.{ℕ, ◌-◌, ◌≤◌}
 use lib.ListN.{length}
 use Rattle.lists.specs.Stores.{Filled}

@@ -1,4 +1,4 @@
--- The rules, and then one row after the other, each under its own number.
+-- Why what Invariants.antt says lasts, and gives what the function promises.
 use mathlib.Core.Path.{◌≡◌, refl, ◌∙◌}
 use native.Mathlib.Omega.{arith}
 use lib.ListN.{length}

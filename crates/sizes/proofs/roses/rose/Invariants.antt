@@ -1,3 +1,4 @@
+-- The rules, and then one row after the other, each under its own number.
 use mathlib.Core.Path.{◌≡◌}
 use Prim.Native.Nat.{◌-◌, ◌≤◌}
 use lib.ListN.{length}

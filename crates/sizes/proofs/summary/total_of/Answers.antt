@@ -1,4 +1,4 @@
--- The loop: the sum is that of the entries passed, and at most 2^53.
+-- Why what Invariants.antt says lasts, and gives what the function promises.
 use Prim.Native.Nat.{◌+◌}
 use native.Mathlib.Omega.{arith}
 use Rattle.lists.specs.Extremes.{total}

@@ -1,3 +1,4 @@
+-- The loop: the sum is that of the entries passed, and at most 2^53.
 use mathlib.Core.Path.{◌≡◌}
 use Prim.Native.Nat.{◌≤◌, ◌-◌}
 use lib.ListN.{take}

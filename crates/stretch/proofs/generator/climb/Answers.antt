@@ -1,4 +1,4 @@
--- A pixel that the topmost run is not brighter than ends no run, and a brighter one opens one; a darker one stops the climb.
+-- Why what Invariants.antt says lasts, and gives what the function promises.
 use native.Mathlib.Omega.{arith}
 use Rattle.bright.proofs.Steps.{climbing_start, climbing_stops, climbing_end, climbing_more}
 use Rattle.bright.specs.Generator.{run8}

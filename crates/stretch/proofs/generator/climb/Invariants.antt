@@ -1,3 +1,4 @@
+-- A pixel that the topmost run is not brighter than ends no run, and a brighter one opens one; a darker one stops the climb.
 use Prim.Native.Nat.{◌-◌}
 use lib.ListN.{length}
 use Rattle.bright.proofs.Steps.{Climbing}

@@ -1,5 +1,4 @@
--- Each turn of the first loop stores the record found in the table; each turn of the second reads a record, and stores the encloser's place in it.
--- What the loops keep to is `Laying` and `Placing`.
+-- Why what Invariants.antt says lasts, and gives what the function promises.
 use Rattle.std.proofs.Common.{◌≡◌, sym, ◌∙◌, ap, subst, length, ℕ, suc, ◌+◌, ◌-◌, ◌*◌, ◌<◌, ◌≤◌, List, get_or, arith}
 use Rattle.std.proofs.Math.ListN.{set}
 use Rattle.answer.specs.declared.Answer.{Answer}

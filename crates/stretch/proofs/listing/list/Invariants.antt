@@ -1,3 +1,5 @@
+-- Each turn of the first loop stores the record found in the table; each turn of the second reads a record, and stores the encloser's place in it.
+-- What the loops keep to is `Laying` and `Placing`.
 use Rattle.std.proofs.Common.{◌≡◌, length, ◌-◌}
 use Rattle.bright.specs.Stretches.{stretches}
 use Rattle.bright.specs.Generator.{run8}

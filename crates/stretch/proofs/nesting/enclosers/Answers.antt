@@ -1,4 +1,4 @@
--- The first pass leaves in the places where the encloser of each stretch starts; from the last one down each is linked to its encloser's place.
+-- Why what Invariants.antt says lasts, and gives what the function promises.
 use mathlib.Core.Path.{refl, sym, ◌∙◌}
 use mathlib.Core.Bool.{false≢true}
 use native.Mathlib.Omega.{arith}

@@ -1,3 +1,4 @@
+-- The first pass leaves in the places where the encloser of each stretch starts; from the last one down each is linked to its encloser's place.
 use Rattle.bright.proofs.Links.{Linking}
 use Rattle.stretch.proofs.nesting.enclosers.Given as goal
 

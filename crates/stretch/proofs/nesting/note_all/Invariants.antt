@@ -1,3 +1,4 @@
+-- The stretches found so far are noted as the list has them, the others are to come.
 use mathlib.Core.Path.{◌≡◌}
 use Prim.Native.Nat.{ℕ, ◌-◌}
 use lib.ListN.{length}

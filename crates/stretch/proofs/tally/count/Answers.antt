@@ -1,4 +1,4 @@
--- Each turn pops one level, which counts, or reads one pixel.
+-- Why what Invariants.antt says lasts, and gives what the function promises.
 use mathlib.Core.Path.{refl}
 use native.Mathlib.Omega.{arith}
 use lib.ListN.{get_or}

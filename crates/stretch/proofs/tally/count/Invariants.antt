@@ -1,3 +1,4 @@
+-- Each turn pops one level, which counts, or reads one pixel.
 use Prim.Native.Nat.{◌+◌, ◌-◌, ◌*◌}
 use lib.ListN.{length}
 use Rattle.bright.proofs.Counting.{Going}

@@ -1,4 +1,4 @@
--- One digit a call: the number without its last digit has one fewer.
+-- Why what Invariants.antt says lasts, and gives what the function promises.
 use mathlib.Core.Path.{sym, ap, ◌∙◌}
 use native.Mathlib.Omega.{arith}
 use lib.ListN.{length}

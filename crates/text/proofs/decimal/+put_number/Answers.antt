@@ -1,4 +1,4 @@
--- The digits of the number without its last one, and then that one.
+-- Why what Invariants.antt says lasts, and gives what the function promises.
 use mathlib.Core.Path.{sym, ap, ◌∙◌}
 use native.Mathlib.Omega.{arith}
 use lib.ListN.{length}

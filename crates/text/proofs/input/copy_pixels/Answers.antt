@@ -1,4 +1,4 @@
--- The first i values stand at the front.
+-- Why what Invariants.antt says lasts, and gives what the function promises.
 use mathlib.Core.Path.{sym, ◌∙◌}
 use native.Mathlib.Omega.{arith}
 use lib.ListN.{take, drop, length-drop}

@@ -1,3 +1,4 @@
+-- The first i values stand at the front.
 use Prim.Native.Nat.{ℕ, ◌-◌, ◌≤◌}
 use lib.ListN.{get_or, take, drop}
 use Rattle.lists.specs.Stores.{Filled}

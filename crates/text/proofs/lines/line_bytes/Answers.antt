@@ -1,4 +1,4 @@
--- Each turn counts one field more.
+-- Why what Invariants.antt says lasts, and gives what the function promises.
 use Prim.Native.Nat.{◌+◌}
 use mathlib.Core.Path.{◌≡◌, ap}
 use mathlib.Core.List.{[], ◌∷◌}

@@ -1,4 +1,4 @@
--- The number whose value so far is `value` goes on at `next`.
+-- Why what Invariants.antt says lasts, and gives what the function promises.
 use mathlib.Core.Path.{refl, sym, ap, ◌∙◌}
 use Prim.Native.Nat.{ℕ, ◌+◌, ◌-◌, ◌*◌}
 use native.Mathlib.Omega.{arith}

@@ -1,3 +1,4 @@
+-- The number whose value so far is `value` goes on at `next`.
 use mathlib.Core.Path.{◌≡◌}
 use Prim.Native.Nat.{◌-◌, ◌≤◌}
 use lib.ListN.{length, drop}

@@ -1,4 +1,4 @@
--- The first i fields stand in the buffer, the others are still to come.
+-- Why what Invariants.antt says lasts, and gives what the function promises.
 use mathlib.Core.Path.{◌≡◌, refl, sym, subst, ◌∙◌}
 use mathlib.Core.Bool.{true}
 use mathlib.Core.List.{[], ◌∷◌}

@@ -1,3 +1,4 @@
+-- The first i fields stand in the buffer, the others are still to come.
 use mathlib.Core.Path.{◌≡◌}
 use Prim.Native.Nat.{◌+◌, ◌-◌, ◌*◌, ◌≤◌}
 use lib.ListN.{length, drop}

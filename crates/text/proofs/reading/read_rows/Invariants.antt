@@ -1,3 +1,4 @@
+-- The pixels of the first rows stand in the buffer, those of the others are still to come.
 use mathlib.Core.Path.{◌≡◌}
 use Prim.Native.Nat.{◌+◌, ◌-◌, ◌*◌, ◌≤◌}
 use lib.ListN.{length, drop}

@@ -1,4 +1,4 @@
--- The lines of the stretches found so far stand there, those of the others are left to put.
+-- Why what Invariants.antt says lasts, and gives what the function promises.
 use mathlib.Core.Path.{refl, sym, ap, ◌∙◌}
 use mathlib.Core.List.{List}
 use Prim.Native.Nat.{ℕ}

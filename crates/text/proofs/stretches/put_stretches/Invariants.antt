@@ -1,3 +1,4 @@
+-- The lines of the stretches found so far stand there, those of the others are left to put.
 use mathlib.Core.Path.{◌≡◌}
 use lib.ListN.{length}
 use Rattle.bright.specs.Generator.{run8, coming}

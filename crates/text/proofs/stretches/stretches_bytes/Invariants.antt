@@ -1,3 +1,4 @@
+-- The bytes of the stretches found so far are counted, those of the others are left to count.
 use mathlib.Core.Path.{◌≡◌}
 use Prim.Native.Nat.{◌+◌}
 use lib.ListN.{length}

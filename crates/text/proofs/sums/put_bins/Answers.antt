@@ -1,4 +1,4 @@
--- Each turn puts one bin's line behind the others.
+-- Why what Invariants.antt says lasts, and gives what the function promises.
 use Prim.Native.Nat.{ℕ, ◌+◌}
 use mathlib.Core.Path.{◌≡◌, refl, sym, ap}
 use mathlib.Core.List.{List}

@@ -1,3 +1,4 @@
+-- Each turn puts one bin's line behind the others.
 use Prim.Native.Nat.{◌-◌, ◌≤◌}
 use mathlib.Core.Path.{◌≡◌}
 use lib.ListN.{length}

@@ -1,3 +1,4 @@
+-- Each sum read is one of the slice's, since the end is no more than its length.
 use Rattle.std.proofs.Common.{◌-◌}
 use Rattle.vectors.proofs.draw.check_sums.Given as goal
 

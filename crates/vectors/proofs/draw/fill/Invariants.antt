@@ -1,3 +1,4 @@
+-- The end is no more than the buffer's length, which a store keeps.
 use Rattle.std.proofs.Common.{◌-◌}
 use Rattle.vectors.proofs.draw.fill.Given as goal
 

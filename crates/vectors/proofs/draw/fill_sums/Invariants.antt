@@ -1,3 +1,4 @@
+-- The end is no more than the slice's length, which a store keeps.
 use Rattle.std.proofs.Common.{◌-◌}
 use Rattle.vectors.proofs.draw.fill_sums.Given as goal
 

@@ -1,3 +1,4 @@
+-- The byte before is one of the buffer's, since none is further back than the front.
 use Rattle.std.proofs.Common.{◌-◌}
 use Rattle.vectors.proofs.draw.repeat.Given as goal
 

@@ -1,3 +1,4 @@
+-- No length past 4,098 is asked.
 use Rattle.std.proofs.Common.{◌-◌}
 use Rattle.vectors.proofs.frames.check_lengths.Given as goal
 

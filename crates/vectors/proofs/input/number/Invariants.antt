@@ -1,3 +1,4 @@
+-- Each turn reads one byte of the text.
 use Rattle.std.proofs.Common.{length, ◌-◌}
 use Rattle.vectors.proofs.input.number.Given as goal
 

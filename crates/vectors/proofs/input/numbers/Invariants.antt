@@ -1,3 +1,4 @@
+-- The fourteen numbers fill the array.
 use Rattle.std.proofs.Common.{◌-◌}
 use Rattle.vectors.proofs.input.numbers.Given as goal
 

@@ -1,3 +1,4 @@
+-- The turns are counted, and no call changes the scratch's length.
 use Rattle.std.proofs.Common.{◌-◌}
 use Rattle.vectors.proofs.lines.stretches.Given as goal
 

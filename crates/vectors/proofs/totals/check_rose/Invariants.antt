@@ -1,3 +1,4 @@
+-- The rose has sixteen rows.
 use Rattle.std.proofs.Common.{◌-◌}
 use Rattle.vectors.proofs.totals.check_rose.Given as goal
 

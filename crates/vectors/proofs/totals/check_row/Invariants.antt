@@ -1,3 +1,4 @@
+-- A row has 33 sums.
 use Rattle.std.proofs.Common.{◌-◌}
 use Rattle.vectors.proofs.totals.check_row.Given as goal
 
