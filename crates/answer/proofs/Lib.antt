@@ -1,2 +1,3 @@
 -- The laws of answer/specs.
 pub mod Rules
+pub mod Refusals

@@ -197,19 +197,19 @@ module _ (most : ℕ) (f a : List ℕ) (depth total read v : ℕ) (g : Going mos
       let s : read + 1 ≡ suc read = omega arith in
       rw (s, e) (drop-cons f read 0 h)
 
-  pub going-first : v < most → depth ≡ 0 → Going most f (set a 0 v) 1 total (read + 1)
+  pub going-first : v < most → depth ≡ 0 → Going most f (set a depth v) (depth + 1) total (read + 1)
   unfolding levels_in rising
   going-first b z =
       let p : levels_in (set a 0 v) 1 ≡ v ∷ [] = rw (get_or-set_same a 0 v 0 (omega (arith, g.size))) in
       let s : total + tally (v ∷ drop (read + 1) f) [] ≡ length (stretches f) = rw (z, next-pixel) at g.sum in
-      record {
+      rw z (record {
         inside = omega arith;
         size = length-set a 0 v ∙ g.size;
         few = omega (arith, g.few);
         places = omega arith;
         rise = rw (get_or-set_same a 0 v 0 (omega (arith, g.size))) (omega arith, tt);
         sum = rw p (omega (arith, tally-none v (drop (read + 1) f)));
-      }
+      })
 
   module _ (z : depth ≡ 0 → ⊥) where
     top-rise : (length (levels_in a (depth - 1)) ≤ get_or a (depth - 1) 0) × rising (levels_in a (depth - 1))

@@ -3,12 +3,10 @@
 --   Model       one reading with a stack gives the list of bright stretches
 --   Turn        what one pixel does to the open runs and the stretches to come
 --   Stops       where a step of the reading stops, and what comes from there
---   Pairs       a number in two bytes of the scratch
 --   Stack       the open runs in the scratch
 --   Steps       the parts of a step of the generator, and what is to come after it
 --   Outers      where a run ends, the run then on top goes on to be the next stretch of the list that does not start after it
 --   Counting    how many stretches a line has, from the levels alone; no more than pixels
---   Again       a slice that is lent again to a call and comes back
 --   Listed      the list holds every stretch, and nothing else
 --   Order       it is in order, and holds each once
 --   Nest        a base is the level of the shortest other stretch that encloses
@@ -22,12 +20,10 @@ pub mod Levels
 pub mod Model
 pub mod Turn
 pub mod Stops
-pub mod Pairs
 pub mod Stack
 pub mod Steps
 pub mod Outers
 pub mod Counting
-pub mod Again
 pub mod Listed
 pub mod Order
 pub mod Nest

@@ -11,7 +11,7 @@
 --   can_nest_room                     what a line that can be nested counts on
 -- Assumes nothing.
 use mathlib.Core.Path.{◌≡◌, refl, sym, ap, ◌∙◌}
-use mathlib.Core.Bool.{true, false, ◌&&◌}
+use mathlib.Core.Bool.{true, ◌&&◌}
 use mathlib.Core.List.{List, []}
 use mathlib.Core.Logic.{◌⊎◌, inl, inr, ⊎_elim}
 use Prim.Native.Nat.{ℕ, suc, ◌+◌, ◌-◌, ◌*◌, ◌≤◌, ◌<◌, zero-le}
@@ -22,6 +22,7 @@ use lib.Dec.{leb}
 use lib.ListN.{length, get_or, set, drop, length-set, length-drop}
 use lib.Seq.{get_or-set_other}
 use borrow.Author.Tests.{leb-true, eq-eqb, ne_eqb}
+use Rattle.std.specs.Prelude.{None, Some}
 use Rattle.lists.specs.Stores.{Filled, front}
 use Rattle.lists.proofs.Cases.{both_left, both_right, less_or_not}
 use Rattle.lists.proofs.Stores.{filled_none, filled-before, filled_again, filled_end, filled-start, filled_as, filled-front}
@@ -51,46 +52,45 @@ pub finding_start : (run : Layout) (f m : List ℕ) → length f ≤ longest →
 unfolding stack_of Rising
 finding_start run f m pixels room = record { comes = coming-beginning run f m pixels room; inside = omega arith; rises = tt }
 
-module _ {run : Layout} {f m : List ℕ} {p : Bookmark} {i : ℕ} {m' : List ℕ} {r : Noted} (g : Finding run f m p i) (h : Notes run f m p m' r) where
+module _ {run : Layout} {f m : List ℕ} {p : Bookmark} {i : ℕ} {m' : List ℕ} {n : Noted} (g : Finding run f m p i) (h : Notes run f m p m' (Some n)) where
   abbrev ss : List Stretch
   ss = stretches f
 
-  module _ (y : r.found ≡ true) where
-    pub finding_more : i < length ss
-    finding_more = place_inside h.follows ss i g.comes y
+  pub finding_more : i < length ss
+  finding_more = place_inside h.follows ss i g.comes
 
-    found : r.nested.stretch ≡ stretch_at ss i
-    found = place_found h.follows ss i g.comes y
+  found : n.nested.stretch ≡ stretch_at ss i
+  found = place_found h.follows ss i g.comes
 
-    rest : coming run f m' r.bookmark ≡ drop (i + 1) ss
-    rest = place-others h.follows ss i g.comes y
+  rest : coming run f m' n.bookmark ≡ drop (i + 1) ss
+  rest = place-others h.follows ss i g.comes
 
-    pub finding_step : Finding run f m' r.bookmark (i + 1)
-    finding_step = record { comes = rest; inside = omega (arith, finding_more); rises = next-rising h.follows y g.rises }
+  pub finding_step : Finding run f m' n.bookmark (i + 1)
+  finding_step = record { comes = rest; inside = omega (arith, finding_more); rises = next-rising h.follows g.rises }
 
-    abbrev start-at : ℕ → ℕ
-    start-at j = (stretch_at ss j).start
+  abbrev start-at : ℕ → ℕ
+  start-at j = (stretch_at ss j).start
 
-    abbrev top : ℕ
-    top = top_start (stack_of run m' r.bookmark.depth)
+  abbrev top : ℕ
+  top = top_start (stack_of run m' n.bookmark.depth)
 
-    -- the last stretch is the whole line, which starts at 0 and has its own place; another has the next that does not start after it
-    outer : ((coming run f m' r.bookmark ≡ []) × (top ≡ 0)) ⊎ FirstLow r.nested.stretch.start top (coming run f m' r.bookmark) → outer_of ss i ≡ top
-    outer (inl q) =
-        let last : i ≡ length ss - 1 = omega (arith, finding_more, ap length (sym rest ∙ q.0), length-drop (i + 1) ss) in
-        let whole = last-whole f (omega (arith, start-inside f i finding_more)) in
-        ap start-at (encloser_own f i finding_more last ∙ last) ∙ whole.0 ∙ sym q.1
-    outer (inr q) =
-        let next = low-next ss i top finding_more (rw (found, rest, add-one i) at q) in
-        ap start-at (next_encloser f i next.0 next.1) ∙ next.2
+  -- the last stretch is the whole line, which starts at 0 and has its own place; another has the next that does not start after it
+  outer : ((coming run f m' n.bookmark ≡ []) × (top ≡ 0)) ⊎ FirstLow n.nested.stretch.start top (coming run f m' n.bookmark) → outer_of ss i ≡ top
+  outer (inl q) =
+      let last : i ≡ length ss - 1 = omega (arith, finding_more, ap length (sym rest ∙ q.0), length-drop (i + 1) ss) in
+      let whole = last-whole f (omega (arith, start-inside f i finding_more)) in
+      ap start-at (encloser_own f i finding_more last ∙ last) ∙ whole.0 ∙ sym q.1
+  outer (inr q) =
+      let next = low-next ss i top finding_more (rw (found, rest, add-one i) at q) in
+      ap start-at (next_encloser f i next.0 next.1) ∙ next.2
 
-    pub finding_noted : r.nested ≡ noted ss i
-    finding_noted =
-        let e : r.nested.encloser ≡ outer_of ss i = h.outer y ∙ sym (outer (next-outer h.follows y g.rises)) in
-        rw (← found, ← e) refl
+  pub finding_noted : n.nested ≡ noted ss i
+  finding_noted =
+      let e : n.nested.encloser ≡ outer_of ss i = h.outer ∙ sym (outer (next-outer h.follows g.rises)) in
+      rw (← found, ← e) refl
 
-  pub finding_end : r.found ≡ false → i ≡ length ss
-  finding_end n = omega (arith, g.inside, place_none h.follows ss i g.comes n)
+pub finding_end : {run : Layout} {f m : List ℕ} {p : Bookmark} {i : ℕ} {m' : List ℕ} → Finding run f m p i → Notes run f m p m' None → i ≡ length (stretches f)
+finding_end {f = f} {i = i} g h = omega (arith, g.inside, place_none h.follows (stretches f) i g.comes)
 
 -- ---- the second pass
 

@@ -2,7 +2,7 @@
 --   lists_once, nests_once, follows-once
 -- Assumes nothing.
 use mathlib.Core.Path.{◌≡◌, refl, sym, ap, ◌∙◌}
-use mathlib.Core.Bool.{Bool, true, false}
+use Rattle.std.specs.Prelude.{Option, None, Some, MatchOption}
 use mathlib.Core.List.{List, ◌∷◌}
 use Prim.Native.Nat.{ℕ}
 use Rattle.lists.specs.Stores.{front}
@@ -26,16 +26,19 @@ lists_once {f} {t} {t₁} {t₂} {m} {m₁} {m₂} {a₁} {a₂} p q =
 pub nests_once : {f p p₁ p₂ m m₁ m₂ : List ℕ} {r₁ r₂ : ℕ} → NestsLine f p p₁ m m₁ r₁ → NestsLine f p p₂ m m₂ r₂ → (r₁ ≡ r₂) × (p₁ ≡ p₂)
 nests_once g h = (g.counts ∙ sym h.counts, g.written ∙ sym h.written)
 
-pub follows-once : {run : Layout} {f m : List ℕ} {p : Bookmark} {m₁ m₂ : List ℕ} {r₁ r₂ : Step} → Follows run f m p m₁ r₁ → Follows run f m p m₂ r₂
-    → (r₁ ≡ r₂) × (coming run f m₁ r₁.bookmark ≡ coming run f m₂ r₂.bookmark)
-follows-once {run} {f} {m} {p} {m₁} {m₂} {r₁} {r₂} g h = (same, go r₁.found refl)
+pub follows-once : {run : Layout} {f m : List ℕ} {p : Bookmark} {m₁ m₂ : List ℕ} {r₁ r₂ : Option Step} → Follows run f m p m₁ r₁ → Follows run f m p m₂ r₂
+    → (r₁ ≡ r₂) × MatchOption r₁ (m₁ ≡ m₂) (λ (s : Step). coming run f m₁ s.bookmark ≡ coming run f m₂ s.bookmark)
+follows-once {run} {f} {m} {p} {m₁} {m₂} {r₁} {r₂} g h = (same, go r₁ refl)
   where
     same : r₁ ≡ r₂
     same = g.steps ∙ sym h.steps
 
-    go : (b : Bool) → r₁.found ≡ b → coming run f m₁ r₁.bookmark ≡ coming run f m₂ r₂.bookmark
-    go true y =
-        let e : r₁.stretch ∷ coming run f m₁ r₁.bookmark ≡ r₂.stretch ∷ coming run f m₂ r₂.bookmark =
-        sym (coming-next g y) ∙ coming-next h (rw same at y) in
+    go : (r : Option Step) → r₁ ≡ r → MatchOption r (m₁ ≡ m₂) (λ (s : Step). coming run f m₁ s.bookmark ≡ coming run f m₂ s.bookmark)
+    go None e =
+        let g' = rw e at g in
+        let h' = rw (sym same ∙ e) at h in
+        g'.leaves ∙ sym h'.leaves
+    go (Some s) e =
+        let t : s.stretch ∷ coming run f m₁ s.bookmark ≡ s.stretch ∷ coming run f m₂ s.bookmark =
+        sym (coming-next (rw e at g)) ∙ coming-next (rw (sym same ∙ e) at h) in
         cc
-    go false y = rw (g.none y, h.none (rw same at y), same)

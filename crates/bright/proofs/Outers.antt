@@ -17,6 +17,7 @@ use native.Mathlib.Omega.{arith}
 use lib.Dec.{ltb}
 use lib.ListN.{length, drop, length-drop, drop_of_length-le}
 use lib.Seq.{drop-cons}
+use Rattle.std.specs.Prelude.{Some}
 use Rattle.lists.proofs.Cases.{less_or_not}
 use Rattle.bright.specs.declared.Bookmark.{Bookmark}
 use Rattle.bright.specs.declared.Step.{Step}
@@ -26,7 +27,7 @@ use Rattle.bright.specs.Generator.{Layout, stack_of, coming, stop_at, Follows}
 use Rattle.bright.specs.Stretches.{no_stretch}
 use Rattle.bright.specs.Nesting.{stretch_at, NextLow}
 use Rattle.bright.proofs.Turn.{ended-none, low-top}
-use Rattle.bright.proofs.Steps.{next-handed, next-left}
+use Rattle.bright.proofs.Steps.{next-found, next-handed, next-left}
 
 unfoldable pub Rising : ℕ → List Run → Type 0
 Rising b [] = Unit {0}
@@ -137,21 +138,20 @@ stop-rising b ps rs h = (stopped 0 b ps rs (omega arith) h).0
 
 -- ---- one step of the generator
 
-module _ {run : Layout} {f m : List ℕ} {p : Bookmark} {m' : List ℕ} {r : Step} (g : Follows run f m p m' r) (y : r.found ≡ true) (h : Rising p.read (stack_of run m p.depth)) where
-  pub next-rising : Rising r.bookmark.read (stack_of run m' r.bookmark.depth)
-  next-rising = rw (g.leaves y, next-handed g y) (stop-rising p.read (drop p.read f) (stack_of run m p.depth) h)
+module _ {run : Layout} {f m : List ℕ} {p : Bookmark} {m' : List ℕ} {s : Step} (g : Follows run f m p m' (Some s)) (h : Rising p.read (stack_of run m p.depth)) where
+  pub next-rising : Rising s.bookmark.read (stack_of run m' s.bookmark.depth)
+  next-rising = rw (g.leaves, next-handed g) (stop-rising p.read (drop p.read f) (stack_of run m p.depth) h)
 
-  pub next-outer : ((coming run f m' r.bookmark ≡ []) × (top_start (stack_of run m' r.bookmark.depth) ≡ 0))
-      ⊎ FirstLow r.stretch.start (top_start (stack_of run m' r.bookmark.depth)) (coming run f m' r.bookmark)
+  pub next-outer : ((coming run f m' s.bookmark ≡ []) × (top_start (stack_of run m' s.bookmark.depth) ≡ 0))
+      ⊎ FirstLow s.stretch.start (top_start (stack_of run m' s.bookmark.depth)) (coming run f m' s.bookmark)
   unfolding todo ending
   next-outer =
-      let found : (stop_at run f m p).found ≡ true = rw (next-handed g y) at y in
       let line : length f ≤ p.read + length (drop p.read f) = omega (arith, length-drop p.read f) in
-      rw (next-left g y, g.leaves y, next-handed g y)
+      rw (next-left g, g.leaves, next-handed g)
       (⊎_elim
       (λ w. inl (rw (w.0, drop_of_length-le f w.1), rw w.0))
       (λ w. inr (w (drop (stop_at run f m p).read f)))
-      ((stopped (length f) p.read (drop p.read f) (stack_of run m p.depth) line h).1 found))
+      ((stopped (length f) p.read (drop p.read f) (stack_of run m p.depth) line h).1 (next-found g)))
 
 -- ---- at places of a list
 

@@ -2,19 +2,19 @@
 --   ready-test, test-ready                  the test of a bookmark, and its facts
 --   coming-beginning                        from the beginning on, every stretch is to come
 --   coming-next                             the stretch that a step finds is the first to come, and the others come from the bookmark that it hands back
---   next-handed, next-left                  where a stretch is found: what is handed back, and what is then left to come
+--   next-found, -handed, -left              where a stretch is found: a run has ended; what is handed back; and what is then left to come
 --   next-room                               .. and the scratch has room for the runs then open
 --   coming-none                             where a step finds none, none is to come
 --   place_inside, -found, -others           where those to come are a list from a place on: the stretch found stands at that place, the others come from the next
 --   place_none                              .. and where none is found, the place is the list's end
---   begins_as, begins_end, begins-first     a run is open already, or the line is at its end, or the pixel opens one
---   Climbing                                where a climb stands; climbing_start, -more, -stops, -end
+--   begins-first                            where no run is open, the pixel opens one
+--   Climbing                                where a climb stands; climbing_more: one pixel further
 --   falls-first, falls-low, falls_pop       the topmost run falls
 --   finds_end, finds_fall                   the stretch that the line's end, or a pixel, ends
---   follows-none, follows-lost, follows-found    the ways out of a step
+--   follows-none, follows-found             the ways out of a step that can be taken
 -- Assumes nothing.
 use mathlib.Core.Path.{◌≡◌, refl, sym, ap, ◌∙◌}
-use mathlib.Core.Bool.{Bool, true, false, cond, ◌&&◌, true≢false, false≢true}
+use mathlib.Core.Bool.{Bool, true, false, cond, ◌&&◌}
 use mathlib.Core.List.{List, [], ◌∷◌}
 use Prim.Native.Nat.{ℕ, suc, ◌+◌, ◌-◌, ◌*◌, ◌≤◌, ◌<◌, max}
 use native.Mathlib.Nat.{le_refl}
@@ -24,6 +24,7 @@ use lib.Dec.{ltb, leb}
 use lib.ListN.{length, get_or, drop, length-drop, drop_of_length-le}
 use lib.Seq.{drop-cons}
 use borrow.Author.Tests.{leb-true, ltb-true, ltb-false, le-leb, lt-ltb}
+use Rattle.std.specs.Prelude.{None, Some}
 use Rattle.lists.proofs.Cases.{both_left, both_right}
 use Rattle.answer.specs.Limits.{longest}
 use Rattle.bright.specs.declared.Bookmark.{Bookmark}
@@ -31,13 +32,16 @@ use Rattle.bright.specs.declared.Step.{Step}
 use Rattle.bright.specs.declared.Stretch.{Stretch}
 use Rattle.bright.specs.Stretches.{stretches, no_stretch}
 use Rattle.bright.specs.Reading.{Run, top_level, top_holds, climbed, todo, Stop, step_from}
-use Rattle.bright.specs.Generator.{Layout, stack_of, is_ready, beginning, coming, stop_at, step_of, no_step, Follows}
+use Rattle.bright.specs.Generator.{Layout, stack_of, is_ready, beginning, coming, stop_at, Follows}
 use Rattle.bright.specs.Nesting.{stretch_at}
-use Rattle.bright.specs.Steps.{Ready, Begins, Closes, Ends, Climbs, Falls, Finds}
+use Rattle.bright.specs.Steps.{Ready, Begins, Closes, Ends, Falls, Finds}
 use Rattle.bright.proofs.Model.{todo-stretches}
 use Rattle.bright.proofs.Stack.{stack_top, stack_below, stack_length}
 use Rattle.bright.proofs.Turn.{climbed-more, climbed-same, holds_not}
 use Rattle.bright.proofs.Stops.{stop_grow, from_stop, stop-comes, stop-inside}
+
+some-none : {s : Step} → Some s ≡ None → ⊥
+some-none e = cc
 
 -- ---- the test of a bookmark
 
@@ -75,12 +79,6 @@ module _ (run : Layout) where
   -- ---- the first run
 
   module _ (f m : List ℕ) (p : Bookmark) (r : Ready f m p) where
-    pub begins_as : (p.depth ≡ 0 → ⊥) → Begins run f m p m p
-    begins_as z = record { ready = r; same = refl; none = λ e. absurd (z e) }
-
-    pub begins_end : p.depth ≡ 0 → p.read ≡ length f → Begins run f m p m p
-    begins_end z e = record { ready = r; same = refl; none = λ _. (z, e, refl) }
-
     pub begins-first : (m' : List ℕ) (v : ℕ) → p.depth ≡ 0 → (p.read ≡ length f → ⊥) → v ≡ get_or f p.read 0 → length m' ≡ length m
         → stack_of run m' 1 ≡ record { start = p.read; level = v } ∷ stack_of run m 0 → Begins run f m p m' (record { read = p.read + 1; depth = 1 })
     unfolding stack_of
@@ -103,17 +101,7 @@ module _ (run : Layout) where
     pub same : stop_at run f o p ≡ stop_at run f m (record { read = read; depth = depth })
     pub kept : length m ≡ length o
 
-  pub climbing_start : (f m : List ℕ) (p : Bookmark) (top : ℕ) → Ready f m p → 0 < p.depth → top ≡ top_level (stack_of run m p.depth)
-      → Climbing f m p m p.read p.depth top
-  climbing_start f m p top r s t = record { ready = r; some = s; top = t; same = refl; kept = refl }
-
   module _ (f o : List ℕ) (p : Bookmark) (m : List ℕ) (read depth top : ℕ) (g : Climbing f o p m read depth top) where
-    pub climbing_stops : get_or f read 0 < top → Climbs run f o p m (record { read = read; depth = depth })
-    climbing_stops h = record { closes = record { ready = g.ready; some = g.some; stops = λ _. omega (arith, g.top) }; same = g.same }
-
-    pub climbing_end : length f ≤ read → Climbs run f o p m (record { read = read; depth = depth })
-    climbing_end h = record { closes = record { ready = g.ready; some = g.some; stops = λ l. absurd (omega arith) }; same = g.same }
-
     module _ (h : read < length f) where
       -- a pixel of at least the topmost run's level ends none
       turn : top_level (stack_of run m depth) ≤ get_or f read 0
@@ -204,126 +192,111 @@ module _ (run : Layout) where
         t ∙ rw (n.from, e ∙ ap top_level t)
 
     pub finds_end : p.read ≡ length f
-        → Finds run f m p m
-        (record { found = true; stretch = record { start = start; end = p.read; level = level; base = under }; bookmark = record { read = p.read; depth = p.depth - 1 } })
+        → Finds run f m p m (record { stretch = record { start = start; end = p.read; level = level; base = under }; bookmark = record { read = p.read; depth = p.depth - 1 } })
     unfolding step_from
     finds_end q =
         let h : length f ≤ p.read = omega arith in
-        record { found = refl; stop = rw (drop_of_length-le f h, top-run, n.below) }
+        rw (drop_of_length-le f h, top-run, n.below)
 
     pub finds_fall : (m' : List ℕ) (base : ℕ) (q : Bookmark) → p.read < length f → base ≡ max (get_or f p.read 0) under → Falls run f m p m' q
-        → Finds run f m p m' (record { found = true; stretch = record { start = start; end = p.read; level = level; base = base }; bookmark = q })
+        → Finds run f m p m' (record { stretch = record { start = start; end = p.read; level = level; base = base }; bookmark = q })
     unfolding step_from
     finds_fall m' base q h e-base g =
         let l : get_or f p.read 0 < level = omega (arith, closes.stops h) in
-        record {
-          found = refl;
-          stop = rw (e-base, n.below, g.reads, g.leaves, ← n.from, top-run, drop-cons f p.read 0 h, lt-ltb (get_or f p.read 0) level l);
-        }
+        rw (e-base, n.below, g.reads, g.leaves, ← n.from, top-run, drop-cons f p.read 0 h, lt-ltb (get_or f p.read 0) level l)
 
   -- ---- the ways out of a step
 
   module _ (f m : List ℕ) (p : Bookmark) where
-    pub follows-lost : is_ready (length f) (length m) p ≡ false → Follows run f m p m (no_step p)
-    follows-lost e = record { steps = rw e; leaves = λ t. absurd (false≢true t); none = λ _. refl; kept = refl }
-
-    pub follows-none : (m' : List ℕ) → Ready f m p → p.depth ≡ 0 → p.read ≡ length f → m' ≡ m → Follows run f m p m' (no_step p)
+    pub follows-none : (m' : List ℕ) → Ready f m p → p.depth ≡ 0 → p.read ≡ length f → m' ≡ m → Follows run f m p m' None
     unfolding stack_of step_from
-    follows-none m' r z e s =
+    follows-none m' r z e same =
         let h : length f ≤ p.read = omega arith in
-        record {
-          steps = rw (ready-test f m p r, drop_of_length-le f h, z);
-          leaves = λ t. absurd (false≢true t);
-          none = λ _. s;
-          kept = ap length s;
-        }
+        record { steps = rw (ready-test f m p r, drop_of_length-le f h, z); leaves = same; kept = ap length same }
 
-    pub follows-found : Ready f m p → (m₁ m' : List ℕ) (q : Bookmark) (r : Step) → stop_at run f m p ≡ stop_at run f m₁ q → Finds run f m₁ q m' r → length m' ≡ length m → Follows run f m p m' r
-    follows-found ready m₁ m' q r s g k =
-        let e = s ∙ g.stop in
-        record {
-          steps = rw (ready-test f m p ready, e, stack_length run m' r.bookmark.depth, ← g.found);
-          leaves = λ _. rw e;
-          none = λ t. absurd (true≢false (sym g.found ∙ t));
-          kept = k;
-        }
+    pub follows-found : Ready f m p → (m₁ m' : List ℕ) (q : Bookmark) (s : Step) → stop_at run f m p ≡ stop_at run f m₁ q → Finds run f m₁ q m' s → length m' ≡ length m
+        → Follows run f m p m' (Some s)
+    follows-found ready m₁ m' q s same g k =
+        let e = same ∙ g in
+        record { steps = rw (ready-test f m p ready, e, stack_length run m' s.bookmark.depth); leaves = rw e; kept = k }
 
 -- ---- what is to come after a step
 
-module _ {run : Layout} {f m : List ℕ} {p : Bookmark} {m' : List ℕ} {r : Step} (g : Follows run f m p m' r) where
-  abbrev s : Stop
-  s = stop_at run f m p
+-- what a step that finds a stretch hands back
+abbrev found_at : Stop → Step
+found_at s = record { stretch = s.stretch; bookmark = record { read = s.read; depth = length s.runs } }
 
-  -- where a reading can stand at p
-  module _ (e : is_ready (length f) (length m) p ≡ true) where
-    handed : r ≡ step_of s
-    handed = g.steps ∙ rw e
+-- where a reading can stand at p
+module _ (run : Layout) (f m : List ℕ) (p : Bookmark) (e : is_ready (length f) (length m) p ≡ true) where
+  comes : coming run f m p ≡ from_stop f (stop_at run f m p)
+  comes = rw e (stop-comes f p.read (drop p.read f) (stack_of run m p.depth) refl)
 
-    comes : coming run f m p ≡ from_stop f s
-    comes = rw e (stop-comes f p.read (drop p.read f) (stack_of run m p.depth) refl)
+  -- it can stand where the step leaves it, too
+  still : (m' : List ℕ) → length m' ≡ length m → Ready f m' (found_at (stop_at run f m p)).bookmark
+  still m' kept =
+      let ready = test-ready f m p e in
+      let line : p.read + length (drop p.read f) ≤ length f = omega (arith, length-drop p.read f, ready.read) in
+      let few : length (stack_of run m p.depth) ≤ p.read = omega (arith, stack_length run m p.depth, ready.depth) in
+      let inside = stop-inside (length f) p.read (drop p.read f) (stack_of run m p.depth) line few in
+      record { pixels = ready.pixels; room = omega (arith, kept, ready.room); read = inside.0; depth = inside.1 }
 
-    -- it can stand where the step leaves it, too
-    still : Ready f m' (step_of s).bookmark
-    still =
-        let ready = test-ready f m p e in
-        let line : p.read + length (drop p.read f) ≤ length f = omega (arith, length-drop p.read f, ready.read) in
-        let few : length (stack_of run m p.depth) ≤ p.read = omega (arith, stack_length run m p.depth, ready.depth) in
-        let inside = stop-inside (length f) p.read (drop p.read f) (stack_of run m p.depth) line few in
-        record { pixels = ready.pixels; room = omega (arith, g.kept, ready.room); read = inside.0; depth = inside.1 }
+module _ {run : Layout} {f m : List ℕ} {p : Bookmark} {m' : List ℕ} {s : Step} (g : Follows run f m p m' (Some s)) where
+  abbrev stop : Stop
+  stop = stop_at run f m p
 
-  -- a step finds a stretch only where a reading can stand
-  stands : r.found ≡ true → is_ready (length f) (length m) p ≡ true
-  stands y = go (is_ready (length f) (length m) p) refl
+  -- a step finds a stretch only where a reading can stand, and a run ends
+  ends : (is_ready (length f) (length m) p ≡ true) × (stop.found ≡ true)
+  ends = go (is_ready (length f) (length m) p) refl stop.found refl
     where
-      go : (t : Bool) → is_ready (length f) (length m) p ≡ t → is_ready (length f) (length m) p ≡ true
-      go true e = e
-      go false e =
-          let lost : r.found ≡ false = rw (g.steps, e) in
-          absurd (false≢true (sym lost ∙ y))
+      go : (t : Bool) → is_ready (length f) (length m) p ≡ t → (u : Bool) → stop.found ≡ u → (is_ready (length f) (length m) p ≡ true) × (stop.found ≡ true)
+      go true e true y = (e, y)
+      go true e false n = absurd (some-none (g.steps ∙ rw (e, n)))
+      go false e u y = absurd (some-none (g.steps ∙ rw e))
 
-  module _ (y : r.found ≡ true) where
-    pub next-handed : r ≡ step_of s
-    next-handed = handed (stands y)
+  pub next-found : stop.found ≡ true
+  next-found = ends.1
 
-    pub next-left : coming run f m' r.bookmark ≡ todo s.read (drop s.read f) s.runs
-    next-left = rw (g.leaves y, next-handed, ready-test f m' (step_of s).bookmark (still (stands y)))
+  pub next-handed : s ≡ found_at stop
+  next-handed =
+      let e : Some s ≡ Some (found_at stop) = rw (ends.0, next-found) at g.steps in
+      cc
 
-    pub coming-next : coming run f m p ≡ r.stretch ∷ coming run f m' r.bookmark
-    coming-next =
-        let found : s.found ≡ true = rw next-handed at y in
-        comes (stands y) ∙ rw (found, next-left, next-handed)
+  pub next-left : coming run f m' s.bookmark ≡ todo stop.read (drop stop.read f) stop.runs
+  next-left = rw (g.leaves, next-handed, ready-test f m' (found_at stop).bookmark (still run f m p ends.0 m' g.kept))
 
-    pub next-room : 4 * r.bookmark.depth ≤ length m'
-    next-room =
-        let ready = still (stands y) in
-        rw next-handed (omega (arith, ready.room, ready.read, ready.depth))
+  pub coming-next : coming run f m p ≡ s.stretch ∷ coming run f m' s.bookmark
+  coming-next = comes run f m p ends.0 ∙ rw (next-found, next-left, next-handed)
 
-  pub coming-none : r.found ≡ false → coming run f m p ≡ []
-  coming-none y = go (is_ready (length f) (length m) p) refl
-    where
-      go : (t : Bool) → is_ready (length f) (length m) p ≡ t → coming run f m p ≡ []
-      go true e =
-          let found : s.found ≡ false = rw (handed e) at y in
-          comes e ∙ rw found
-      go false e = rw e
+  pub next-room : 4 * s.bookmark.depth ≤ length m'
+  next-room =
+      let ready = still run f m p ends.0 m' g.kept in
+      rw next-handed (omega (arith, ready.room, ready.read, ready.depth))
 
-  -- where those to come are the list ss from the place i on
-  module _ (ss : List Stretch) (i : ℕ) (others : coming run f m p ≡ drop i ss) where
-    pub place_none : r.found ≡ false → length ss ≤ i
-    place_none y = omega (arith, ap length (sym others ∙ coming-none y), length-drop i ss)
+pub coming-none : {run : Layout} {f m : List ℕ} {p : Bookmark} {m' : List ℕ} → Follows run f m p m' None → coming run f m p ≡ []
+coming-none {run} {f} {m} {p} g = go (is_ready (length f) (length m) p) refl (stop_at run f m p).found refl
+  where
+    go : (t : Bool) → is_ready (length f) (length m) p ≡ t → (u : Bool) → (stop_at run f m p).found ≡ u → coming run f m p ≡ []
+    go true e true y = absurd (some-none {s = found_at (stop_at run f m p)} (sym (g.steps ∙ rw (e, y))))
+    go true e false n = comes run f m p e ∙ rw n
+    go false e u y = rw e
 
-    module _ (y : r.found ≡ true) where
-      first : drop i ss ≡ r.stretch ∷ coming run f m' r.bookmark
-      first = sym others ∙ coming-next y
+-- where those to come are the list ss from the place i on
+pub place_none : {run : Layout} {f m : List ℕ} {p : Bookmark} {m' : List ℕ} → Follows run f m p m' None → (ss : List Stretch) (i : ℕ) → coming run f m p ≡ drop i ss
+    → length ss ≤ i
+place_none g ss i others = omega (arith, ap length (sym others ∙ coming-none g), length-drop i ss)
 
-      pub place_inside : i < length ss
-      place_inside = omega (arith, ap length first, length-drop i ss)
+module _ {run : Layout} {f m : List ℕ} {p : Bookmark} {m' : List ℕ} {s : Step} (g : Follows run f m p m' (Some s)) (ss : List Stretch) (i : ℕ) (others : coming run f m p ≡ drop i ss) where
+  first : drop i ss ≡ s.stretch ∷ coming run f m' s.bookmark
+  first = sym others ∙ coming-next g
 
-      apart : stretch_at ss i ∷ drop (suc i) ss ≡ r.stretch ∷ coming run f m' r.bookmark
-      apart = sym (drop-cons ss i no_stretch place_inside) ∙ first
+  pub place_inside : i < length ss
+  place_inside = omega (arith, ap length first, length-drop i ss)
 
-      pub place_found : r.stretch ≡ stretch_at ss i
-      place_found = let e = apart in cc
+  apart : stretch_at ss i ∷ drop (suc i) ss ≡ s.stretch ∷ coming run f m' s.bookmark
+  apart = sym (drop-cons ss i no_stretch place_inside) ∙ first
 
-      pub place-others : coming run f m' r.bookmark ≡ drop (i + 1) ss
-      place-others = let e = apart in rw (add-one i) cc
+  pub place_found : s.stretch ≡ stretch_at ss i
+  place_found = let e = apart in cc
+
+  pub place-others : coming run f m' s.bookmark ≡ drop (i + 1) ss
+  place-others = let e = apart in rw (add-one i) cc

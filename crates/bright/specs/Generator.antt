@@ -9,18 +9,16 @@
 --   to_come run f m p    the stretches of the line f still to come at the bookmark p, with the scratch m
 --   coming run f m p     the same; nothing where no reading can stand at p
 --   stop_at run f m p    where the step from p stops
---   step_of s            what a step that stops at s hands back: of the runs open their number
---   no_step p            no stretch is found, and the bookmark is p
---   step_at run f m p    what the step from p hands back; no_step p where no reading can stand there
+--   step_of s            what a step that stops at s hands back, of the runs open their number; None where no run has ended
+--   step_at run f m p    what the step from p hands back; None where no reading can stand there
 --   Follows run f m p m' r    what `next` hands back and leaves
 -- Laws: bright/proofs/Steps (coming-beginning: from the beginning on every stretch is to come; coming-next: the stretch found is the first to come, and the others come from
 -- the bookmark handed back; coming-none: where none is found, none is to come).
-use Rattle.std.specs.Prelude.{◌≡◌, Bool, true, false, cond, ◌&&◌, List, [], ◌∷◌, ℕ, zero, suc, ◌+◌, ◌*◌, ◌/◌, ◌%◌, leb, length, get_or, set, drop}
+use Rattle.std.specs.Prelude.{◌≡◌, Bool, cond, ◌&&◌, List, [], ◌∷◌, ℕ, zero, suc, ◌+◌, ◌*◌, ◌/◌, ◌%◌, leb, length, get_or, set, drop, Option, None, Some, MatchOption}
 use Rattle.answer.specs.Limits.{longest}
 use Rattle.bright.specs.declared.Stretch.{Stretch}
 use Rattle.bright.specs.declared.Bookmark.{Bookmark}
 use Rattle.bright.specs.declared.Step.{Step}
-use Rattle.bright.specs.Stretches.{no_stretch}
 use Rattle.bright.specs.Reading.{Run, todo, Stop, step_from}
 
 abbrev pub pair_at : List ℕ → ℕ → ℕ
@@ -55,19 +53,15 @@ coming run f m p = cond (is_ready (length f) (length m) p) (to_come run f m p) [
 abbrev pub stop_at : Layout → List ℕ → List ℕ → Bookmark → Stop
 stop_at run f m p = step_from p.read (drop p.read f) (stack_of run m p.depth)
 
-abbrev pub step_of : Stop → Step
-step_of s = record { found = s.found; stretch = s.stretch; bookmark = record { read = s.read; depth = length s.runs } }
+abbrev pub step_of : Stop → Option Step
+step_of s = cond s.found (Some (record { stretch = s.stretch; bookmark = record { read = s.read; depth = length s.runs } })) None
 
-abbrev pub no_step : Bookmark → Step
-no_step p = record { found = false; stretch = no_stretch; bookmark = p }
-
-abbrev pub step_at : Layout → List ℕ → List ℕ → Bookmark → Step
-step_at run f m p = cond (is_ready (length f) (length m) p) (step_of (stop_at run f m p)) (no_step p)
+abbrev pub step_at : Layout → List ℕ → List ℕ → Bookmark → Option Step
+step_at run f m p = cond (is_ready (length f) (length m) p) (step_of (stop_at run f m p)) None
 
 -- The line, the bookmark, and the open runs and the length of the scratch settle all that is handed back. Where a stretch is found, the scratch holds the runs then open,
 -- from which the others come; its other bytes are left open. Where none is found, nothing changes.
-pub record Follows (run : Layout) (f m : List ℕ) (p : Bookmark) (m' : List ℕ) (r : Step) : Type 0 where
+pub record Follows (run : Layout) (f m : List ℕ) (p : Bookmark) (m' : List ℕ) (r : Option Step) : Type 0 where
   pub steps : r ≡ step_at run f m p
-  pub leaves : r.found ≡ true → stack_of run m' r.bookmark.depth ≡ (stop_at run f m p).runs
-  pub none : r.found ≡ false → m' ≡ m
+  pub leaves : MatchOption r (m' ≡ m) (λ (s : Step). stack_of run m' s.bookmark.depth ≡ (stop_at run f m p).runs)
   pub kept : length m' ≡ length m

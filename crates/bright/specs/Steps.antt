@@ -1,4 +1,4 @@
--- What the private parts of a step, of a nesting and of a listing keep to.
+-- What the private parts of a step and of a nesting keep to.
 --   Ready f m p          a reading of the line f can stand at p with the scratch m, as facts
 --   Begins, Climbs       the reading has gone on, and the step from there stops as before
 --   Closes f m p         the topmost run ends at p: the pixel there is darker, or the line is at its end
@@ -7,17 +7,14 @@
 --   Finds                the step from p stops there, and the topmost run is the stretch found
 --   outer_of ss i        where the encloser of the stretch at i of the list ss starts
 --   noted ss i           the record at i with the start of its encloser for the encloser's place
---   step_in r            the step of the reading in what `next_noted` hands back
+--   step_in n            the step of the reading in one of the listing
 --   Notes                what `next_noted` hands back and leaves
 --   Links                what `link` hands back and leaves: the place last seen at the encloser's start, or that of the last record itself; and this place seen at its own start
 --   NotesAll             what `note_all` hands back and leaves: the starts of a line's stretches, and those of their enclosers
---   start_of a           where the reading of a listing with the answer a starts; on refusal a bookmark at which no reading can stand, so that `next` finds nothing
---   finished a k         the answer of a listing that has come to its end, with k stretches
-use Rattle.std.specs.Prelude.{◌≡◌, true, cond, List, ℕ, suc, ◌+◌, ◌-◌, ◌*◌, ◌≤◌, ◌<◌, eqb, length, get_or}
+use Rattle.std.specs.Prelude.{◌≡◌, true, cond, List, ℕ, suc, ◌+◌, ◌-◌, ◌*◌, ◌≤◌, ◌<◌, eqb, length, get_or, Option, IfSome}
+use Rattle.std.specs.Option.{option_map}
 use Rattle.lists.specs.Stores.{Filled}
-use Rattle.answer.specs.declared.Answer.{Answer}
 use Rattle.answer.specs.Limits.{longest}
-use Rattle.answer.specs.Rules.{done, by_number}
 use Rattle.bright.specs.declared.Bookmark.{Bookmark}
 use Rattle.bright.specs.declared.Step.{Step}
 use Rattle.bright.specs.declared.Stretch.{Stretch}
@@ -25,7 +22,7 @@ use Rattle.bright.specs.declared.Nested.{Nested}
 use Rattle.bright.specs.declared.Noted.{Noted}
 use Rattle.bright.specs.Stretches.{stretches}
 use Rattle.bright.specs.Reading.{top_level, top_start, top_holds, fallen}
-use Rattle.bright.specs.Generator.{Layout, pair_at, stack_of, stop_at, beginning, Follows}
+use Rattle.bright.specs.Generator.{Layout, pair_at, stack_of, stop_at, Follows}
 use Rattle.bright.specs.Nesting.{stretch_at, encloser_of, nested}
 
 pub record Ready (f m : List ℕ) (p : Bookmark) : Type 0 where
@@ -58,9 +55,8 @@ pub record Falls (run : Layout) (f m : List ℕ) (p : Bookmark) (m' : List ℕ) 
   pub reads : q.read ≡ cond (top_holds (get_or f p.read 0) (stack_of run m (p.depth - 1))) p.read (suc p.read)
   pub leaves : stack_of run m' q.depth ≡ fallen (get_or f p.read 0) (run m (p.depth - 1)) (stack_of run m (p.depth - 1))
 
-pub record Finds (run : Layout) (f m : List ℕ) (p : Bookmark) (m' : List ℕ) (r : Step) : Type 0 where
-  pub found : r.found ≡ true
-  pub stop : stop_at run f m p ≡ record { found = true; stretch = r.stretch; read = r.bookmark.read; runs = stack_of run m' r.bookmark.depth }
+abbrev pub Finds : Layout → List ℕ → List ℕ → Bookmark → List ℕ → Step → Type 0
+Finds run f m p m' s = stop_at run f m p ≡ record { found = true; stretch = s.stretch; read = s.bookmark.read; runs = stack_of run m' s.bookmark.depth }
 
 -- ---- the nesting
 
@@ -71,11 +67,11 @@ abbrev pub noted : List Stretch → ℕ → Nested
 noted ss i = nested (stretch_at ss i) (outer_of ss i)
 
 abbrev pub step_in : Noted → Step
-step_in r = record { found = r.found; stretch = r.nested.stretch; bookmark = r.bookmark }
+step_in n = record { stretch = n.nested.stretch; bookmark = n.bookmark }
 
-pub record Notes (run : Layout) (f m : List ℕ) (p : Bookmark) (m' : List ℕ) (r : Noted) : Type 0 where
-  pub follows : Follows run f m p m' (step_in r)
-  pub outer : r.found ≡ true → r.nested.encloser ≡ top_start (stack_of run m' r.bookmark.depth)
+pub record Notes (run : Layout) (f m : List ℕ) (p : Bookmark) (m' : List ℕ) (r : Option Noted) : Type 0 where
+  pub follows : Follows run f m p m' (option_map step_in r)
+  pub outer : IfSome r (λ (n : Noted). n.nested.encloser ≡ top_start (stack_of run m' n.bookmark.depth))
 
 pub record Links (m : List ℕ) (start outer place count : ℕ) (m' : List ℕ) (r : ℕ) : Type 0 where
   pub found : r ≡ cond (eqb (place + 1) count) place (pair_at m (2 * outer))
@@ -88,11 +84,3 @@ pub record NotesAll (f starts outers m starts' outers' m' : List ℕ) (r : ℕ) 
   pub starting : Filled starts starts' 0 (length (stretches f)) (λ (i : ℕ). (stretch_at (stretches f) i).start)
   pub outer : Filled outers outers' 0 (length (stretches f)) (outer_of (stretches f))
   pub kept : length m' ≡ length m
-
--- ---- the listing
-
-abbrev pub start_of : Answer → Bookmark
-start_of a = by_number a.number beginning (record { read = 0; depth = 1 })
-
-abbrev pub finished : Answer → ℕ → Answer
-finished a k = by_number a.number (done k) a

@@ -1,9 +1,11 @@
 // What both programs do with standard input and output, over any stream.
 #![tactic(auto)]
 
-ghost use Rattle.std.specs.Prelude.{◌≤◌, length};
+ghost use Rattle.std.specs.Prelude.{◌≡◌, true, ℕ, ◌<◌, ◌≤◌, length, take, IfSome, IfNone};
+ghost use Rattle.std.specs.Io.KnownBytes.{Appends, Consumes, IsAtEnd, Keeps};
+ghost use Rattle.io.specs.Counts.{IsPrefixLen};
 ghost use Rattle.text.specs.Stretches.{refusal_text};
-ghost use Rattle.console.specs.Streams.{Receives, Shows};
+ghost use Rattle.console.specs.Streams.{Receives, Refuses, Shows, WritesFront};
 
 use std::io::{Error, ErrorKind, Read, Write};
 use text::LONGEST_INPUT;
@@ -15,13 +17,12 @@ pub const ROOM: usize = LONGEST_INPUT + 1;
 pub const PIXELS: usize = LONGEST_INPUT / 2;
 
 // How often a read or a write is tried that a signal interrupts each time before it moves a byte. Past that it has failed: nothing says that signals end, and
-// every loop must.
+// every loop must. std's own loops, as that of `write_all`, try 2^64 times: a program would seem to hang.
 const TRIES: usize = 1000000;
 
-// How many bytes stand at the front of the buffer, and whether they are the whole input, or as much of it as there was room for: not where a read failed.
-#[derive(Clone, Copy)]
-pub struct Received {
-    pub whole: bool,
+// A read failed: so many bytes stand at the front of the buffer, and what was to follow them is missing.
+#[derive(Clone, Copy, Debug, PartialEq, Eq)]
+pub struct Cut {
     pub count: usize,
 }
 
@@ -30,74 +31,76 @@ fn is_interrupted(failure: &Error) -> bool {
     failure.kind() == ErrorKind::Interrupted
 }
 
-// Reads once to the front of buf: no byte where the input has ended, or where the read failed.
-fn read_once<R: Read>(stream: &mut R, buf: &mut [u8]) -> Received
-    ensures { Receives buf.old buf.new result }
+// Reading and writing have a loop of tries each. One loop over a closure would be no plainer: what a stream keeps where a try fails is one line of each loop's
+// invariant, and over a closure an induction over its calls.
+
+// Reads once to the front of buf, and hands back how many bytes: none where the input has ended. `None` where the read failed.
+fn read_once<R: Read>(stream: &mut R, buf: &mut [u8]) -> Option<usize>
+    ensures counted { IfSome result (λ n. IsPrefixLen n buf.new) }
+    ensures taken { IfSome result (λ n. Consumes (R.remaining stream.old) (R.remaining stream.new) (take n buf.new)) }
+    ensures ended { IfSome result (λ n. n ≡ 0 → 0 < length buf.old → IsAtEnd (R.remaining stream.new)) }
+    ensures failed { IfNone result (Keeps (R.remaining stream.old) (R.remaining stream.new)) }
 {
-    let mut tries = 0;
-    while tries < TRIES {
+    for _ in 0..TRIES {
         match stream.read(buf) {
-            Ok(count) => return Received { whole: true, count },
+            Ok(count) => return Some(count),
             Err(failure) => {
                 if !is_interrupted(&failure) {
-                    break;
+                    return None;
                 }
             }
         }
-        tries += 1;
     }
-    Received {
-        whole: false,
-        count: 0,
-    }
+    None
 }
 
-// Reads a stream to the front of buf until it ends, buf is full, or a read fails.
-pub fn receive<R: Read>(stream: &mut R, buf: &mut [u8]) -> Received
-    ensures { Receives buf.old buf.new result }
+// Reads a stream to the front of buf until it ends, buf is full, or a read fails. Hands back how many bytes stand there: the whole input, or as much of it as
+// there is room for.
+pub fn receive<R: Read>(stream: &mut R, buf: &mut [u8]) -> Result<usize, Cut>
+    ensures { Receives (R.remaining stream.old) (R.remaining stream.new) buf.old buf.new result }
 {
     let mut count = 0;
+    // No range counts this: how many bytes a read gives is up to the stream.
     while count < buf.len() {
-        let more = read_once(stream, &mut buf[count..]);
-        if more.count == 0 {
-            return Received {
-                whole: more.whole,
-                count,
-            };
+        match read_once(stream, &mut buf[count..]) {
+            None => return Err(Cut { count }),
+            Some(0) => break,
+            Some(more) => count += more,
         }
-        count += more.count;
     }
-    Received { whole: true, count }
+    Ok(count)
 }
 
-// Writes once from the front of text. Hands back how many bytes are written, 0 where the write failed.
-fn write_once<W: Write>(stream: &mut W, text: &[u8]) -> usize
-    ensures { result ≤ length text.now }
+// Writes once from the front of text, and hands back how many bytes. `None` where the write failed, or wrote none.
+fn write_once<W: Write>(stream: &mut W, text: &[u8]) -> Option<usize>
+    ensures counted { IfSome result (λ n. (0 < n) × (n ≤ length text.now)) }
+    ensures written { IfSome result (λ n. Appends (W.contents stream.old) (W.contents stream.new) (take n text.now)) }
+    ensures failed { IfNone result (Keeps (W.contents stream.old) (W.contents stream.new)) }
 {
-    let mut tries = 0;
-    while tries < TRIES {
+    for _ in 0..TRIES {
         match stream.write(text) {
-            Ok(count) => return count,
+            Ok(0) => return None,
+            Ok(count) => return Some(count),
             Err(failure) => {
                 if !is_interrupted(&failure) {
-                    break;
+                    return None;
                 }
             }
         }
-        tries += 1;
     }
-    0
+    None
 }
 
 // Writes a text to a stream, and stops at the first write that fails. Answers whether all of it is written.
-fn write_whole<W: Write>(stream: &mut W, text: &[u8]) -> bool {
-    let mut done = 0;
-    while done < text.len() {
-        let more = write_once(stream, &text[done..]);
-        if more == 0 {
+fn write_whole<W: Write>(stream: &mut W, text: &[u8]) -> bool
+    ensures { WritesFront (W.contents stream.old) (W.contents stream.new) text.now result }
+{
+    let mut rest = text;
+    while !rest.is_empty() {
+        let Some(n) = write_once(stream, rest) else {
             return false;
-        }
-        done += more;
+        };
+        rest = &rest[n..];
     }
     true
 }
@@ -105,7 +108,7 @@ fn write_whole<W: Write>(stream: &mut W, text: &[u8]) -> bool {
 // Writes the first n bytes of a text to a stream. Answers whether they are written: not where n is 0, which is how the calls that write texts say that
 // they had no room, nor where the text has fewer.
 pub fn show<W: Write>(stream: &mut W, text: &[u8], n: usize) -> bool
-    ensures { Shows text.now n result }
+    ensures { Shows (W.contents stream.old) (W.contents stream.new) text.now n result }
 {
     if n == 0 {
         return false;
@@ -118,9 +121,9 @@ pub fn show<W: Write>(stream: &mut W, text: &[u8], n: usize) -> bool
 
 // Prints a refusal: its text has room for any number.
 pub fn refuse<W: Write>(stream: &mut W, number: u32)
-    ensures { length (refusal_text number) ≤ 32 }
+    ensures { Refuses (W.contents stream.old) (W.contents stream.new) number }
 {
     let mut text = [0u8; 32];
-    let n = text::refusal_text(number as u64, &mut text);
+    let n = text::refusal_text(u64::from(number), &mut text);
     show(stream, &text, n);
 }

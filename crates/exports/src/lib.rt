@@ -16,18 +16,29 @@ ghost use Rattle.sizes.specs.Summary.{summary_of};
 use answer::Answer;
 use frame::{Direction, Shape};
 
+// A shape as C hands it over, in three numbers.
+fn shape_of(width: usize, height: usize, stride: usize) -> Shape
+    ensures { result ≡ shape width height stride }
+{
+    Shape {
+        width,
+        height,
+        stride,
+    }
+}
+
 #[unsafe(no_mangle)]
 pub extern "C" fn c_erode(src: &[u8], length: usize, dst: &mut [u8]) -> Answer
     ensures { ErodesLine src.now length dst.old dst.new result }
 {
-    line::erode(src, length, dst)
+    Answer::from(line::erode(src, length, dst))
 }
 
 #[unsafe(no_mangle)]
 pub extern "C" fn c_dilate(src: &[u8], length: usize, dst: &mut [u8]) -> Answer
     ensures { DilatesLine src.now length dst.old dst.new result }
 {
-    line::dilate(src, length, dst)
+    Answer::from(line::dilate(src, length, dst))
 }
 
 #[unsafe(no_mangle)]
@@ -39,7 +50,7 @@ pub extern "C" fn c_open_line(
 ) -> Answer
     ensures { OpensLine src.now length dst.old dst.new scratch.old scratch.new result }
 {
-    line::open_line(src, length, dst, scratch)
+    Answer::from(line::open_line(src, length, dst, scratch))
 }
 
 #[unsafe(no_mangle)]
@@ -55,12 +66,8 @@ pub extern "C" fn c_gather(
 ) -> Answer
     ensures { Gathers src.now (shape width height stride) (dir p q) line dst.old dst.new result }
 {
-    let frame = Shape {
-        width,
-        height,
-        stride,
-    };
-    gathering::gather(src, frame, Direction { p, q }, line, dst)
+    let frame = shape_of(width, height, stride);
+    Answer::from(gathering::gather(src, frame, Direction { p, q }, line, dst))
 }
 
 #[unsafe(no_mangle)]
@@ -76,12 +83,8 @@ pub extern "C" fn c_highest(
 ) -> Answer
     ensures { FindsHighest src.now (shape width height stride) length dst.old dst.new directions.old directions.new scratch.old scratch.new result }
 {
-    let frame = Shape {
-        width,
-        height,
-        stride,
-    };
-    opening::highest(src, frame, length, dst, directions, scratch)
+    let frame = shape_of(width, height, stride);
+    Answer::from(opening::highest(src, frame, length, dst, directions, scratch))
 }
 
 #[unsafe(no_mangle)]
@@ -97,12 +100,8 @@ pub extern "C" fn c_sums_of_frame(
 ) -> Answer
     ensures { SumsFrame src.now (shape width height stride) (dir p q) sums.old sums.new scratch.old scratch.new result }
 {
-    let frame = Shape {
-        width,
-        height,
-        stride,
-    };
-    sizes::sums_of_frame(src, frame, Direction { p, q }, sums, scratch)
+    let frame = shape_of(width, height, stride);
+    Answer::from(sizes::sums_of_frame(src, frame, Direction { p, q }, sums, scratch))
 }
 
 // The summary comes back one number at a time: its record is not laid out for C.
@@ -110,22 +109,19 @@ pub extern "C" fn c_sums_of_frame(
 pub extern "C" fn c_mean(sums: &[u64]) -> f64
     ensures { result ≡ (summary_of sums.now).mean }
 {
-    let s = sizes::summarize(sums);
-    s.mean
+    sizes::summarize(sums).mean
 }
 
 #[unsafe(no_mangle)]
 pub extern "C" fn c_share(sums: &[u64]) -> f64
     ensures { result ≡ (summary_of sums.now).share }
 {
-    let s = sizes::summarize(sums);
-    s.share
+    sizes::summarize(sums).share
 }
 
 #[unsafe(no_mangle)]
 pub extern "C" fn c_number(sums: &[u64]) -> u32
     ensures { result ≡ (summary_of sums.now).number }
 {
-    let s = sizes::summarize(sums);
-    s.number
+    sizes::summarize(sums).number
 }

@@ -4,7 +4,8 @@
 --   accepted-some               an accepted direction moves; accepted_or_not: both rules accept, or one refuses
 --   sweep_sane, sweep_apart, sweep_accepted    the sweep of an accepted frame and direction
 --   sweep_reach                 its last pixel is within the bytes that the frame needs
---   top_less, low_less          its lines move aside by less than a side; for_lines, for_low, for_sane: and what `sweep_of` hands back
+--   sane_of                     what equals it keeps to the same
+--   top_less, low_less          its lines move aside by less than a side
 --   shift_is                    what `shift_at` hands back for such a sweep
 --   gapless-accepted, gapless-needed    a frame without gaps: it is accepted, and needs a byte a pixel
 -- Assumes nothing.
@@ -26,7 +27,7 @@ use Rattle.frame.specs.declared.shape.Shape.{Shape}
 use Rattle.frame.specs.declared.sweep.Sweep.{Sweep}
 use Rattle.frame.specs.Direction.{is_direction, shallow}
 use Rattle.frame.specs.Shape.{within, is_frame, needed, gapless}
-use Rattle.frame.specs.Sweep.{sweep_of, sweep_for, shift, shift_at, low, lines, Accepted, Sane, Apart, Reach}
+use Rattle.frame.specs.Sweep.{sweep_of, sweep_for, shift, shift_at, low, Accepted, Sane, Apart, Reach}
 use Rattle.frame.proofs.Rounding.{r_le}
 
 pub record Framed (sh : Shape) : Type 0 where
@@ -153,7 +154,10 @@ low_less s h = go s.falling (top_less s h)
     go true k = omega arith
     go false k = k
 
--- ---- what `sweep_of` and `shift_at` hand back
+pub sane_of : {sh : Shape} {d : Direction} {s : Sweep} → Accepted sh d → s ≡ sweep_of sh d → Sane s
+sane_of ok e = rw e (sweep_sane ok)
+
+-- ---- what both rules accept, and what `shift_at` hands back
 
 pub accepted_or_not : (sh : Shape) (d : Direction) → Accepted sh d ⊎ ((is_frame sh && is_direction d) ≡ false)
 accepted_or_not sh d = go (is_frame sh && is_direction d) refl
@@ -161,29 +165,6 @@ accepted_or_not sh d = go (is_frame sh && is_direction d) refl
     go : (t : Bool) → (is_frame sh && is_direction d) ≡ t → Accepted sh d ⊎ ((is_frame sh && is_direction d) ≡ false)
     go true e = inl (record { frame = both_left (is_frame sh) (is_direction d) e; direction = both_right (is_frame sh) (is_direction d) e })
     go false e = inr e
-
-module _ (sh : Shape) (d : Direction) where
-  pub for_lines : lines (sweep_for sh d) ≤ 2 * longest
-  for_lines = go (accepted_or_not sh d)
-    where
-      go : Accepted sh d ⊎ ((is_frame sh && is_direction d) ≡ false) → lines (sweep_for sh d) ≤ 2 * longest
-      go (inl ok) = rw (sweep_accepted ok) (omega (arith, (sweep_sane ok).minors, top_less (sweep_of sh d) (sweep_sane ok)))
-      go (inr e) = rw e (omega arith)
-
-  pub for_low : low (sweep_for sh d) ≤ longest
-  unfolding low
-  for_low = go (accepted_or_not sh d)
-    where
-      go : Accepted sh d ⊎ ((is_frame sh && is_direction d) ≡ false) → low (sweep_for sh d) ≤ longest
-      go (inl ok) = rw (sweep_accepted ok) (omega (arith, low_less (sweep_of sh d) (sweep_sane ok)))
-      go (inr e) = rw e (omega arith)
-
-  pub for_sane : (u : ℕ) → u < lines (sweep_for sh d) → Sane (sweep_for sh d)
-  for_sane u h = go (accepted_or_not sh d)
-    where
-      go : Accepted sh d ⊎ ((is_frame sh && is_direction d) ≡ false) → Sane (sweep_for sh d)
-      go (inl ok) = rw (sweep_accepted ok) (sweep_sane ok)
-      go (inr e) = absurd (omega (arith, rw e at h))
 
 pub shift_is : (s : Sweep) → Sane s → (i : ℕ) → i ≤ longest → shift_at s i ≡ shift s i
 shift_is s h i k = rw (le-ltb s.run 1 h.moves, le-ltb steepest s.run h.run, le-leb s.rise s.run h.slow, le-leb i longest k)

@@ -2,21 +2,21 @@
 --   back                      a number that went through its bits is itself
 --   below-zero, not_below     a number below 0, and one that is not
 --   size-most, minus_fits, lowest-fits, sum_fits    a size that fits, a negation and a sum that do
---   steeper, not_steeper      the test of a size, as the definitions make it
+--   negation_fits, negation_is    the negation of a natural, through its bits
 -- Assumes nothing.
 use mathlib.Core.Path.{◌≡◌, refl, ap, subst}
 use mathlib.Core.Bool.{Bool, true, false, true≢false}
 use Prim.Native.Nat.{ℕ, zero, suc, ◌+◌, ◌*◌, ◌^◌, ◌≤◌, ◌<◌, zero-le}
 use native.Mathlib.Omega.{arith}
 use native.Mathlib.Nat.{lt_irrefl, lt_of_lt_of_le}
-use borrow.Author.Tests.{ltb-true, ltb-false, le-ltb, le-leb, lt-leb}
-use lib.Dec.{T, leb, ltb}
+use borrow.Author.Tests.{ltb-true, le-ltb}
+use lib.Dec.{T, ltb}
 use lib.IntN.{ℤ, pos, negsuc, neg_ℤ, nat_abs, sub_ℕ, ◌+ℤ◌, ◌-ℤ◌, +ℤ_idl}
 use lib.Signed.{mag, lt_z, non_neg}
 use mir.Syntax.{w64}
 use mir.Val.{SFits, to_z, of_z}
 use mir.Facts.{to_z-of_z}
-use Rattle.answer.specs.Limits.{longest, steepest}
+use Rattle.answer.specs.Limits.{longest}
 use Rattle.frame.proofs.Numbers.{minus_is}
 
 pub back : (z : ℤ) → mag z < 2 ^ 63 → to_z w64 (of_z w64 z) ≡ z
@@ -42,6 +42,12 @@ minus_fits z h = rw +ℤ_idl (go z h)
     go (pos (suc n)) h = record { sfits = omega arith }
     go (negsuc n) h = record { sfits = omega arith }
 
+pub negation_fits : (n : ℕ) → n ≤ longest → SFits w64 (pos 0 -ℤ to_z w64 n)
+negation_fits n h = rw (back (pos n) (omega arith)) (minus_fits (pos n) h)
+
+pub negation_is : (n : ℕ) → n ≤ longest → to_z w64 (of_z w64 (pos 0 -ℤ to_z w64 n)) ≡ sub_ℕ 0 n
+negation_is n h = rw (back (pos n) (omega arith), to_z-of_z (minus_fits (pos n) h)) (minus_is 0 n)
+
 pub lowest-fits : (n : ℕ) → n ≤ longest → SFits w64 (sub_ℕ 0 n)
 lowest-fits n h = subst (SFits w64) (minus_is 0 n) (minus_fits (pos n) h)
 
@@ -52,9 +58,3 @@ sum_fits (negsuc n) u h k = go (ltb u (suc n)) refl
     go : (t : Bool) → ltb u (suc n) ≡ t → SFits w64 (sub_ℕ u (suc n))
     go true e = rw e (record { sfits = omega arith })
     go false e = rw e (record { sfits = omega arith })
-
-pub steeper : {n m : ℕ} → ltb steepest n ≡ true → n ≡ m → leb m steepest ≡ false
-steeper {n} {m} e q = lt-leb m steepest (omega (arith, ltb-true steepest n e))
-
-pub not_steeper : {n m : ℕ} → ltb steepest n ≡ false → n ≡ m → leb m steepest ≡ true
-not_steeper {n} {m} e q = le-leb m steepest (omega (arith, ltb-false steepest n e))

@@ -11,7 +11,7 @@ use mathlib.Core.Bool.{Bool, true, false, cond, true≢false}
 use mathlib.Core.Logic.{⊎_elim}
 use mathlib.Core.List.{List, []}
 use Prim.Native.Nat.{ℕ, ◌+◌, ◌-◌, ◌*◌, ◌/◌, ◌≤◌, ◌<◌, min}
-use native.Mathlib.Nat.{add-mul, mul-add, mul-zero, mul_assoc, mul_comm, mul-le-mul, mul-le-mul_right, div-lt_iff_lt-mul, le-div_iff_mul-le, div-mul-le_self, div-eq_of_lt, le_trans}
+use native.Mathlib.Nat.{add-mul, mul-add, mul-zero, mul_assoc, mul_comm, mul-le-mul_right, div-lt_iff_lt-mul, le-div_iff_mul-le, div-mul-le_self, div-eq_of_lt, le_trans}
 use native.Mathlib.Omega.{arith}
 use borrow.Author.Tests.{eqb-true, eqb-false, ltb-true, ltb-false}
 use lib.Dec.{ltb, eqb}
@@ -20,7 +20,6 @@ use lib.IntN.{nat_abs, sub_ℕ}
 use Rattle.lists.specs.Tables.{table, those}
 use Rattle.lists.proofs.Cases.{less_or_not}
 use Rattle.lists.proofs.Picks.{map-table, those-none, those-stretch}
-use Rattle.answer.specs.Limits.{longest, steepest}
 use Rattle.frame.specs.declared.direction.Direction.{Direction}
 use Rattle.frame.specs.declared.shape.Shape.{Shape}
 use Rattle.frame.specs.declared.sweep.Sweep.{Sweep}
@@ -43,9 +42,6 @@ turn i b = sym (mul_assoc i 2 b) ∙ ap (λ (n : ℕ). n * b) (mul_comm i 2)
 
 odd : (x a : ℕ) → (2 * x + 1) * a + a ≡ (x + 1) * (2 * a)
 odd x a = omega (arith, add-mul (2 * x) 1 a, turn (x + 1) a, ap (λ (n : ℕ). n * a) (mul-add 2 x 1), add-mul (2 * x) (2 * 1) a)
-
-pub odd-small : (x a : ℕ) → x ≤ 8 * longest → a ≤ steepest → (2 * x + 1) * a ≤ (16 * longest + 1) * steepest
-odd-small x a h k = mul-le-mul {n₁ = 2 * x + 1} {m₁ = a} {n₂ = 16 * longest + 1} {m₂ = steepest} (omega arith) k
 
 module _ (a b n x : ℕ) (some : 1 ≤ a) where
   -- a line without a slope stays

@@ -3,18 +3,16 @@
 --   skipped a b n x y    the first i below n with y < r a b i + x; n where there is none
 --   span_from s u        the first major coordinate at which line u has a pixel
 --   span_end s u         the one behind the last
---   spanning s u         both, as a start and a count
 --   Spans s u from count      line u has a pixel at the count major coordinates from `from` on, and at no other
---   Indexed low k there at    the index of line number k, where there is one
+--   Indexed low k found       the index of line number k, where there is one
 --   index_of low k       the index of line number k
---   track_at s u         where line u is; no_track: nowhere
+--   track_at s u         where line u is: its index, its start and its count; no_track: nowhere
 --   track_of sh d k      where line number k of a frame is; nowhere where there is no such line, or rule 1 or 2 refuses
 -- Laws: frame/proofs/Spans, Tracks.
-use Rattle.std.specs.Prelude.{◌≡◌, Bool, true, false, not, cond, ◌&&◌, ℕ, suc, ◌+◌, ◌-◌, ◌*◌, ◌/◌, ◌≤◌, ◌<◌, min, ltb, eqb, ℤ, pos, negsuc}
+use Rattle.std.specs.Prelude.{◌≡◌, true, false, not, cond, ◌&&◌, ℕ, suc, ◌+◌, ◌-◌, ◌*◌, ◌/◌, ◌≤◌, ◌<◌, min, ltb, eqb, ℤ, pos, negsuc, Option, MatchOption}
 use Rattle.std.proofs.Math.IntN.{sub_ℕ}
 use Rattle.frame.specs.declared.direction.Direction.{Direction}
 use Rattle.frame.specs.declared.shape.Shape.{Shape}
-use Rattle.frame.specs.declared.span.Span.{Span}
 use Rattle.frame.specs.declared.sweep.Sweep.{Sweep}
 use Rattle.frame.specs.declared.track.Track.{Track}
 use Rattle.frame.specs.Direction.{is_direction}
@@ -34,18 +32,14 @@ span_from s u = cond s.falling (skipped s.run s.rise s.majors s.minors u) (skipp
 unfoldable pub span_end : Sweep → ℕ → ℕ
 span_end s u = cond s.falling (passed s.run s.rise s.majors u) (passed s.run s.rise s.majors (lines s - u - 1))
 
-abbrev pub spanning : Sweep → ℕ → Span
-spanning s u = record { from = span_from s u; count = span_end s u - span_from s u }
-
 pub record Spans (s : Sweep) (u from count : ℕ) : Type 0 where
   pub fits : from + count ≤ s.majors
   pub inside : (i : ℕ) → from ≤ i → i < from + count → hit s u i ≡ true
   pub before : (i : ℕ) → i < from → hit s u i ≡ false
   pub behind : (i : ℕ) → from + count ≤ i → i < s.majors → hit s u i ≡ false
 
-pub record Indexed (low : ℕ) (k : ℤ) (there : Bool) (at : ℕ) : Type 0 where
-  pub found : there ≡ true → sub_ℕ at low ≡ k
-  pub missing : there ≡ false → (v : ℕ) → sub_ℕ v low ≡ k → ⊥
+abbrev pub Indexed : ℕ → ℤ → Option ℕ → Type 0
+Indexed low k found = MatchOption found ((v : ℕ) → sub_ℕ v low ≡ k → ⊥) (λ (at : ℕ). sub_ℕ at low ≡ k)
 
 abbrev pub index_of : ℕ → ℤ → ℕ
 index_of low (pos n) = low + n

@@ -5,7 +5,6 @@ mod direction;
 mod length;
 mod lines;
 mod shape;
-mod signed;
 mod span;
 mod sweep;
 mod track;

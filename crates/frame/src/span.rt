@@ -1,67 +1,55 @@
 // At which major coordinates a line has its pixels: by division once, so that a walk visits no others.
 ghost use Rattle.std.specs.Prelude.{◌≡◌, ◌*◌, ◌≤◌, ◌<◌};
-ghost use Rattle.answer.specs.Limits.{longest, steepest};
+ghost use Rattle.answer.specs.Limits.{longest};
 ghost use Rattle.frame.specs.Sweep.{lines, Sane};
-ghost use Rattle.frame.specs.Span.{passed, skipped, spanning};
+ghost use Rattle.frame.specs.Span.{passed, skipped, track_at};
 
 use crate::sweep::Sweep;
+use crate::track::Track;
 
-// A stretch of major coordinates: the first, and how many.
-#[derive(Clone, Copy)]
-pub(crate) struct Span {
-    pub from: usize,
-    pub count: usize,
-}
-
-// The first major coordinate at which a line has moved more than x aside; `majors` where there is none.
-fn past(run: usize, rise: usize, majors: usize, x: usize) -> usize
-    requires { (1 ≤ run) × (run ≤ steepest) × (rise ≤ run) × (x ≤ 8 * longest) }
-    ensures { result ≡ passed run rise majors x }
-{
-    if rise == 0 {
-        return majors;
+impl Sweep {
+    // The first major coordinate at which a line has moved more than x aside; `majors` where there is none.
+    #[tactic(auto, unfolding(crate::specs::Span::passed))]
+    fn past(self, x: usize) -> usize
+        requires { Sane self × (x ≤ 8 * longest) }
+        ensures { result ≡ passed self.run self.rise self.majors x }
+    {
+        if self.rise == 0 {
+            self.majors
+        } else {
+            self.majors
+                .min(((2 * x + 1) * self.run - 1) / (2 * self.rise) + 1)
+        }
     }
-    let e = ((2 * x + 1) * run - 1) / (2 * rise) + 1;
-    if majors <= e {
-        return majors;
-    }
-    e
-}
 
-// The first major coordinate at which a line has moved so far aside that with `more` it is above `most`.
-fn skip(run: usize, rise: usize, majors: usize, more: usize, most: usize) -> usize
-    requires { (1 ≤ run) × (run ≤ steepest) × (rise ≤ run) × (most ≤ 8 * longest) }
-    ensures { result ≡ skipped run rise majors more most }
-{
-    if most < more {
-        return 0;
+    // The first major coordinate at which a line has moved so far aside that with `more` it is above `most`.
+    #[tactic(auto, unfolding(crate::specs::Span::skipped))]
+    fn skip(self, more: usize, most: usize) -> usize
+        requires { Sane self × (most ≤ 8 * longest) }
+        ensures { result ≡ skipped self.run self.rise self.majors more most }
+    {
+        if most < more {
+            0
+        } else {
+            self.past(most - more)
+        }
     }
-    past(run, rise, majors, most - more)
-}
 
-// The major coordinates at which line u has its pixels.
-pub(crate) fn spanned(s: Sweep, u: usize) -> Span
-    requires { Sane s × (u < lines s) }
-    ensures { result ≡ spanning s u }
-{
-    let majors = s.majors;
-    let minors = s.minors;
-    let run = s.run;
-    let rise = s.rise;
-    let top = s.top;
-    let falling = s.falling;
-    if falling {
-        let from = skip(run, rise, majors, minors, u);
-        let end = past(run, rise, majors, u);
-        return Span {
+    // Where line u has its pixels.
+    #[tactic(auto, using(crate::proofs::Shapes::top_less))]
+    pub(crate) fn track(self, u: usize) -> Track
+        requires { Sane self × (u < lines self) }
+        ensures { result ≡ track_at self u }
+    {
+        let (from, end) = if self.falling {
+            (self.skip(self.minors, u), self.past(u))
+        } else {
+            (self.skip(u + 1, self.top), self.past(self.lines() - u - 1))
+        };
+        Track {
+            index: u,
             from,
             count: end - from,
-        };
-    }
-    let from = skip(run, rise, majors, u + 1, top);
-    let end = past(run, rise, majors, minors + top - u - 1);
-    Span {
-        from,
-        count: end - from,
+        }
     }
 }

@@ -1,11 +1,12 @@
 -- What the calls on a line answer, and what they know once they are not refused. Gathering and scattering have the same rules up to rule 2; then `size` bytes of
 -- source of which `from` are needed, and `room` bytes of destination of which `to` are.
 --   line-answer                what the tests answer that ask for the track's count
+--   gather-says, scatter-says  the same, of a gathering and of a scattering
 --   gather_done                a gathering that no rule refuses
 --   Fits, gather_fits, scatter_fits    what a call knows that is not refused
 -- Assumes nothing.
-use mathlib.Core.Path.{◌≡◌, refl, sym, ◌∙◌}
-use mathlib.Core.Bool.{Bool, true, false, not, true≢false}
+use mathlib.Core.Path.{◌≡◌, refl, sym, ap, ◌∙◌}
+use mathlib.Core.Bool.{Bool, true, false, not, cond, true≢false}
 use mathlib.Core.List.{List, [], ◌∷◌}
 use Prim.Native.Nat.{ℕ, ◌≤◌}
 use borrow.Author.Tests.{not-false, ltb-false, le-ltb, ne_eqb}
@@ -17,12 +18,14 @@ use Rattle.answer.specs.Rules.{Rule, rule, answer, done}
 use Rattle.answer.proofs.Rules.{kept}
 use Rattle.frame.specs.declared.direction.Direction.{Direction}
 use Rattle.frame.specs.declared.shape.Shape.{Shape}
+use Rattle.frame.specs.declared.track.Track.{Track}
 use Rattle.frame.specs.Direction.{is_direction}
 use Rattle.frame.specs.Shape.{is_frame, needed}
 use Rattle.frame.specs.Lines.{pixels, no_line}
 use Rattle.frame.specs.Span.{track_of}
 use Rattle.frame.specs.Sweep.{Accepted}
 use Rattle.frame.proofs.Pixels.{empty-none}
+use Rattle.frame.proofs.Shapes.{needed-by}
 use Rattle.frame.proofs.Tracks.{track_line}
 use Rattle.gathering.specs.Gathering.{gather_rules}
 use Rattle.gathering.specs.Scattering.{scatter_rules}
@@ -105,3 +108,20 @@ module _ (sh : Shape) (d : Direction) (k : ℤ) (size room : ℕ) where
   scatter_fits e z =
       let rules = kept_rules sh d k size (length (pixels sh d k)) room (needed sh) e z in
       record { ok = rules.ok; there = rules.there; whole = rules.place; room = rules.source }
+
+  -- t is the line's track; bytes is what the frame needs, where there is one
+  pub gather-says : (t : Track) (framed : Bool) (bytes : ℕ) {a : Answer} → t ≡ track_of sh d k → framed ≡ is_frame sh → bytes ≡ cond (is_frame sh) (needed sh) 0
+      → a ≡ answer (frame_line_rules framed t.count size bytes room t.count) t.count → a ≡ answer (gather_rules sh d k size room) (length (pixels sh d k))
+  gather-says t framed bytes track frame need e =
+      e
+      ∙ ap (λ (f : Bool). answer (frame_line_rules f t.count size bytes room t.count) t.count) frame
+      ∙ line-answer sh d k size (needed sh) room (length (pixels sh d k)) t.count bytes t.count (ap (λ (t : Track). t.count) track)
+      (λ ok counted. (need ∙ needed-by sh ok.frame, counted))
+
+  pub scatter-says : (t : Track) (framed : Bool) (bytes : ℕ) {a : Answer} → t ≡ track_of sh d k → framed ≡ is_frame sh → bytes ≡ cond (is_frame sh) (needed sh) 0
+      → a ≡ answer (frame_line_rules framed t.count size t.count room bytes) t.count → a ≡ answer (scatter_rules sh d k size room) (length (pixels sh d k))
+  scatter-says t framed bytes track frame need e =
+      e
+      ∙ ap (λ (f : Bool). answer (frame_line_rules f t.count size t.count room bytes) t.count) frame
+      ∙ line-answer sh d k size (length (pixels sh d k)) room (needed sh) t.count t.count bytes (ap (λ (t : Track). t.count) track)
+      (λ ok counted. (counted, need ∙ needed-by sh ok.frame))

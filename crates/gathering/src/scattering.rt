@@ -1,42 +1,52 @@
 // Putting values back to a line of a frame, the way back from gathering.
 ghost use Rattle.std.specs.Prelude.{◌≡◌, ℕ, ◌+◌, ◌≤◌, length};
 ghost use Rattle.lists.specs.Tables.{table};
-ghost use Rattle.frame.specs.Sweep.{cell, Sane, Reach};
-ghost use Rattle.frame.specs.Span.{Spans};
+ghost use Rattle.frame.specs.Sweep.{cell, Reach};
+ghost use Rattle.answer.specs.Refusals.{counted};
 ghost use Rattle.gathering.specs.Scattering.{stored, Scatters};
 
 use crate::Pixel;
-use crate::cells::cell_of;
-use crate::rules::refusal;
-use answer::Answer;
-use frame::{Direction, Shape, Sweep, Track, sweep_of, track_of};
+use crate::rules::tested;
+use crate::walk::Walk;
+use answer::Refusal;
+use frame::{Direction, Shape, sweep_of, track_of};
 
-// The values at the front of src to the pixels of a line, which has them at the major coordinates of t.
-fn copy_in(src: &[Pixel], s: Sweep, t: Track, dst: &mut [Pixel])
-    requires { Sane s × Reach s (length dst.old) × Spans s t.index t.from t.count × (t.count ≤ length src.now) }
-    ensures { dst.new ≡ stored (table (λ (i : ℕ). cell s t.index (t.from + i)) t.count) src.now dst.old }
+// The values at the front of src, to the pixels of the line walked.
+// Not inlined: behind its caller's tests the compiler takes the loop for one that seldom runs, and does not align it.
+#[inline(never)]
+fn copy_in(src: &[Pixel], walk: Walk, dst: &mut [Pixel])
+    requires { Reach walk.sweep (length dst.old) × (walk.track.count ≤ length src.now) }
+    ensures { dst.new ≡ stored (table (λ (i : ℕ). cell walk.sweep walk.track.index (walk.track.from + i)) walk.track.count) src.now dst.old }
 {
-    let u = t.index;
-    let from = t.from;
-    let count = t.count;
-    let mut i = 0;
-    while i < count {
-        let at = cell_of(s, u, from + i);
+    for i in 0..walk.track.count {
+        let at = walk.byte(i);
         dst[at] = src[i];
-        i += 1;
     }
 }
 
 // Writes the values at the front of src to the pixels of a line of the frame dst, in line order. Hands back their count. Rules 1, 2, 5, 6.
-pub fn scatter(src: &[Pixel], shape: Shape, d: Direction, line: i64, dst: &mut [Pixel]) -> Answer
-    ensures { Scatters src.now shape d line dst.old dst.new result }
+pub fn scatter(
+    src: &[Pixel],
+    shape: Shape,
+    d: Direction,
+    line: i64,
+    dst: &mut [Pixel],
+) -> Result<usize, Refusal>
+    ensures { Scatters src.now shape d line dst.old dst.new (counted result) }
 {
-    let t = track_of(shape, d, line);
-    let n = t.count;
-    let a = refusal(shape.is_frame(), n, src.len(), n, dst.len(), shape.bytes());
-    if a.number != 0 {
-        return a;
-    }
-    copy_in(src, sweep_of(shape, d), t, dst);
-    a
+    let track = track_of(shape, d, line);
+    let count = tested(
+        shape.is_frame(),
+        track.count,
+        src.len(),
+        track.count,
+        dst.len(),
+        shape.bytes(),
+    )?;
+    let walk = Walk {
+        sweep: sweep_of(shape, d),
+        track,
+    };
+    copy_in(src, walk, dst);
+    Ok(count)
 }

@@ -2,27 +2,25 @@
 ghost use Rattle.std.specs.Prelude.{◌≡◌, ◌+◌, ◌-◌, ◌≤◌};
 ghost use lib.ListN;
 ghost use Rattle.answer.specs.Rules.{answer};
+ghost use Rattle.answer.specs.Refusals.{counted};
 ghost use Rattle.line.specs.Windows.{dilated, dilated_count};
 ghost use Rattle.line.specs.Dilation.{dilate_rules, DilatesLine};
 
 use crate::Pixel;
 use crate::doubling::dilate_in_place;
-use answer::{Answer, LONGEST, is_outside};
+use answer::{LONGEST, Refusal, is_outside};
 
-// Rules 1, 3 and 6 for m values, with `room` bytes of destination. m + length − 1 is tested as length against what m leaves, since the sum may wrap.
-fn refusal(m: usize, length: usize, room: usize) -> Answer
-    ensures { result ≡ answer (dilate_rules m length room) (dilated_count m length) }
+// Rules 1, 3 and 6 for m values, with `room` bytes of destination: how many values the dilation has. m + length − 1 is tested as length against what m leaves,
+// since the sum may wrap.
+fn tested(m: usize, length: usize, room: usize) -> Result<usize, Refusal>
+    ensures { counted result ≡ answer (dilate_rules m length room) (dilated_count m length) }
 {
-    if is_outside(m, 1, LONGEST) {
-        return Answer::refused(1, 0);
-    }
-    if LONGEST - m + 1 < length {
-        return Answer::refused(1, 0);
-    }
+    Refusal::Size.when(is_outside(m, 1, LONGEST))?;
+    Refusal::Size.when(LONGEST - m + 1 < length)?;
+    Refusal::Length.when(is_outside(length, 1, LONGEST))?;
     let count = m + length - 1;
-    Answer::done(count as u64)
-        .unless(3, is_outside(length, 1, LONGEST))
-        .needing(6, room, count)
+    Refusal::Destination(count).unless_there(room)?;
+    Ok(count)
 }
 
 // The dilation into dst, which has room for just its values: they grow where they stand, with zeros behind the values of src.
@@ -38,15 +36,10 @@ fn dilated_into(src: &[Pixel], length: usize, dst: &mut [Pixel])
 }
 
 // Dilates the values src with windows of `length` values into the front of dst. Hands back the count of values. Rules 1, 3, 6.
-pub fn dilate(src: &[Pixel], length: usize, dst: &mut [Pixel]) -> Answer
-    ensures { DilatesLine src.now length dst.old dst.new result }
+pub fn dilate(src: &[Pixel], length: usize, dst: &mut [Pixel]) -> Result<usize, Refusal>
+    ensures { DilatesLine src.now length dst.old dst.new (counted result) }
 {
-    let m = src.len();
-    let a = refusal(m, length, dst.len());
-    if a.number != 0 {
-        return a;
-    }
-    let count = m + length - 1;
+    let count = tested(src.len(), length, dst.len())?;
     dilated_into(src, length, &mut dst[..count]);
-    a
+    Ok(count)
 }

@@ -11,14 +11,12 @@ use crate::Pixel;
 pub fn growth(w: usize, length: usize) -> usize
     ensures { result ≡ min w (length - w) }
 {
-    if length < w {
-        return 0;
-    }
-    let left = length - w;
-    if w < left { w } else { left }
+    w.min(length.saturating_sub(w))
 }
 
-// The line begins with the values of its erosion; what follows them is left over from the passes.
+// The line begins with the values of its erosion; what follows them is left over from the passes. A `while`, here and in the dilation, since the step varies; and two
+// functions, since one for both would choose each turn where the row and its partners begin and how far they reach. That a length is not 0 is a clause here and above,
+// and no type's: each function that asks for it asks for another bound of the length as well, by what it opens.
 pub(crate) fn erode_in_place(line: &mut [Pixel], length: usize)
     requires { (1 ≤ length) × (length ≤ lib.ListN.length line.old) }
     ensures { ErodedFront line.old length line.new }
@@ -51,7 +49,7 @@ pub fn open_in_place(line: &mut [Pixel], length: usize)
     ensures { line.new ≡ opened_in_place line.old length }
 {
     let n = line.len();
-    if length < 1 {
+    if length == 0 {
         return;
     }
     if n < length {

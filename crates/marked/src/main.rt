@@ -1,23 +1,20 @@
 // The marked examples of document 01 on lines, P1 to P6, run through the library: the file `stdout` beside this folder has what document 01 says.
 #![tactic(auto)]
 
-fn wide(x: u8) -> u64 {
-    x as u64
-}
+use answer::Answer;
 
 // A write that fails is passed over: then what is printed is not `stdout`.
 fn show_values(rt: &impl Print, values: &[u8]) {
-    let mut i = 0;
-    while i < values.len() {
-        let _ = print!(rt; " {}", wide(values[i]));
-        i += 1;
+    for value in values {
+        let _ = print!(rt; " {value}");
     }
     let _ = println!(rt);
 }
 
 // Prints a call's answer, its number and figure, and the values that it left.
-fn show(rt: &impl Print, name: &str, a: answer::Answer, values: &[u8]) {
-    let _ = print!(rt; "{name}\t{}\t{}\t", a.number, a.figure);
+fn show<A: Into<Answer>>(rt: &impl Print, name: &str, outcome: A, values: &[u8]) {
+    let Answer { number, figure } = outcome.into();
+    let _ = print!(rt; "{name}\t{number}\t{figure}\t");
     show_values(rt, values);
 }
 
@@ -42,10 +39,8 @@ fn eroded_and_dilated(rt: &impl Print) {
 }
 
 fn main(rt: HostRuntime) {
-    opened(&rt, "P1", 1);
-    opened(&rt, "P2", 2);
-    opened(&rt, "P3", 3);
-    opened(&rt, "P4", 5);
-    opened(&rt, "P5", 6);
+    for (name, length) in [("P1", 1), ("P2", 2), ("P3", 3), ("P4", 5), ("P5", 6)] {
+        opened(&rt, name, length);
+    }
     eroded_and_dilated(&rt);
 }

@@ -1,12 +1,12 @@
 -- The rows of a frame painted one after the other: the first n rows are a frame of height n.
 --   gapless-row                a row of a frame without gaps is in it
 --   part_length                how long a row is that is lent as a part
---   rows_none, rows_more       no row, and one row more
+--   rows_more                  one row more
 --   rows-put                   one row more, lent as a part and put back
 --   rows_end                   the count of rows known by an equation
 --   rows_left, rows-by         each pixel made of what stood there: what is left, and one row more
 -- Assumes nothing.
-use mathlib.Core.Path.{◌≡◌, refl, sym, ap, ◌∙◌, subst}
+use mathlib.Core.Path.{◌≡◌, sym, ap, ◌∙◌, subst}
 use mathlib.Core.Logic.{⊎_elim}
 use mathlib.Core.List.{List, ◌++◌}
 use Prim.Native.Nat.{ℕ, ◌+◌, ◌-◌, ◌*◌, ◌≤◌, ◌<◌}
@@ -36,9 +36,6 @@ pub gapless-row : (sh : Shape) (y : ℕ) → y < sh.height → y * sh.width + sh
 gapless-row sh y h = omega (arith, row_ends (gapless sh) y h, gapless-needed sh (omega arith))
 
 module _ (width stride : ℕ) (G : ℕ → ℕ → ℕ) where
-  pub rows_none : (g : List ℕ) → Painted (shape width 0 stride) G g g
-  rows_none g = record { same = refl; pixels = λ x y h l. absurd (omega arith); gaps = λ k none. refl }
-
   pub rows_more : {g a b : List ℕ} (n : ℕ) → width ≤ stride → Painted (shape width n stride) G g a
       → Filled a b (n * stride) (n * stride + width) (λ (k : ℕ). G (k - n * stride) n) → Painted (shape width (n + 1) stride) G g b
   rows_more {g} {a} {b} n past p f =

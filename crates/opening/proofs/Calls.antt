@@ -1,6 +1,4 @@
 -- What the answer 0 of a call's rules says of the numbers that it was handed.
---   area_small             a frame's pixels, counted
---   tested_answer          where rule 1 refuses a frame, what it would need is not looked at
 --   highest_rules_lem      the rules of `highest` are those of `open_frame` along, with the shorter of the two destinations
 --   open_ready, highest_ready
 --   open_figure            the figure that open_frame hands back is below 2^32
@@ -8,49 +6,25 @@
 -- Assumes nothing.
 use mathlib.Core.Path.{◌≡◌, refl, ap, ◌∙◌}
 use mathlib.Core.Bool.{Bool, true, false, not, cond}
-use mathlib.Core.List.{List, [], ◌∷◌}
-use Prim.Native.Nat.{ℕ, ◌*◌, ◌≤◌, ◌<◌, ◌^◌, min}
-use native.Mathlib.Nat.{mul-le-mul}
+use Prim.Native.Nat.{ℕ, ◌<◌, ◌^◌, min}
 use native.Mathlib.Omega.{arith}
 use borrow.Author.Tests.{not-false, ltb-true, ltb-false, lt-ltb, le-ltb}
 use lib.Dec.{ltb}
 use Rattle.answer.specs.declared.Answer.{Answer}
 use Rattle.answer.specs.Limits.{longest}
-use Rattle.answer.specs.Rules.{Rule, rule, answer, outside}
+use Rattle.answer.specs.Rules.{answer, outside}
 use Rattle.answer.proofs.Rules.{kept, outside_not}
 use Rattle.frame.specs.declared.direction.Direction.{Direction}
 use Rattle.frame.specs.declared.shape.Shape.{Shape}
 use Rattle.frame.specs.Direction.{is_direction, along, numbered_of}
 use Rattle.frame.specs.Shape.{is_frame, needed, scratch_for}
 use Rattle.frame.specs.Length.{pixels_for, pixels_or_none}
-use Rattle.frame.proofs.Shapes.{Framed, framed, needed-small}
+use Rattle.frame.proofs.Shapes.{framed, needed-small}
 use Rattle.frame.proofs.Directions.{numbered-accepted}
 use Rattle.frame.proofs.Lengths.{pixels-some, pixels-most, pixels_known}
 use Rattle.opening.specs.Frames.{open_frame_rules}
 use Rattle.opening.specs.Sixteen.{highest_rules}
 use Rattle.opening.specs.Steps.{Ready}
-
-pub area_small : {sh : Shape} → Framed sh → sh.width * sh.height ≤ longest * longest
-area_small {sh} f = mul-le-mul {n₁ = sh.width} {m₁ = sh.height} {n₂ = longest} {m₂ = longest} f.width f.height
-
--- `bytes` and `lines` are what the calls work out, in place of what a frame needs
-abbrev pub tested_rules : Shape → Direction → ℕ → ℕ → ℕ → ℕ → ℕ → ℕ → List Rule
-tested_rules sh d L size room spare bytes lines =
-    rule (not (is_frame sh)) 1 0
-    ∷ rule (not (is_direction d)) 2 0
-    ∷ rule (outside 1 longest L) 3 0
-    ∷ rule (ltb size bytes) 5 bytes
-    ∷ rule (ltb room bytes) 6 bytes
-    ∷ rule (ltb spare lines) 7 lines
-    ∷ []
-
-pub tested_answer : (sh : Shape) (d : Direction) (L size room spare : ℕ) {bytes lines : ℕ} → bytes ≡ cond (is_frame sh) (needed sh) 0 → lines ≡ cond (is_frame sh) (scratch_for sh) 0
-    → answer (tested_rules sh d L size room spare bytes lines) 0 ≡ answer (open_frame_rules sh d L size room spare) 0
-tested_answer sh d L size room spare {bytes} {lines} b l = go (is_frame sh) refl
-  where
-    go : (t : Bool) → is_frame sh ≡ t → answer (tested_rules sh d L size room spare bytes lines) 0 ≡ answer (open_frame_rules sh d L size room spare) 0
-    go true e = rw ((rw e at b), (rw e at l))
-    go false e = rw e
 
 pub highest_rules_lem : (sh : Shape) (L size bright numbers spare : ℕ)
     → answer (highest_rules sh L size bright numbers spare) 0 ≡ answer (open_frame_rules sh along L size (min bright numbers) spare) 0

@@ -1,8 +1,8 @@
 -- A frame treated line by line: the first lines, one more, and all of them.
 --   lines-counted                 how many lines `lines_of` counts
 --   line-there, line-back         there is a line of each index; its number, as it comes back from the machine
---   LinesSet                      the pixels of the first lines are set, each from what stood there: lines_none, lines_more, lines-all
---   line-room, line-opened, line-value       a line gathered and opened, and the value that it has for one of its pixels
+--   LinesSet                      the pixels of the first lines are set, each from what stood there: lines_more, lines-all
+--   line-given, line-room, line-opened, line-value       a line gathered and opened, and the value that it has for one of its pixels
 --   LinesClaimed                  the first lines have claimed pixels: lines_claimed, one more; all_claimed
 -- Assumes nothing.
 use mathlib.Core.Path.{◌≡◌, refl, sym, ap, ap₂, ◌∙◌, subst}
@@ -20,9 +20,13 @@ use mir.Syntax.{w64}
 use mir.Val.{to_z, of_z}
 use Rattle.lists.specs.Stores.{front}
 use Rattle.lists.proofs.Stores.{front_length}
+use Rattle.std.specs.Prelude.{Result, Ok}
 use Rattle.answer.specs.declared.Answer.{Answer}
+use Rattle.answer.specs.declared.Refusal.{Refusal}
 use Rattle.answer.specs.Limits.{longest}
+use Rattle.answer.specs.Refusals.{counted}
 use Rattle.answer.specs.Rules.{done}
+use Rattle.answer.proofs.Refusals.{counted_once}
 use Rattle.answer.proofs.Rules.{after-done}
 use Rattle.line.specs.Windows.{opened}
 use Rattle.line.specs.Opening.{opened_in_place}
@@ -73,9 +77,6 @@ pub record LinesSet (sh : Shape) (d : Direction) (n : ℕ) (C : ℕ → ℕ → 
   pub gaps : (i : ℕ) → Gap sh i → get_or g' i 0 ≡ get_or g i 0
 
 module _ {sh : Shape} {d : Direction} {C : ℕ → ℕ → ℕ → ℕ} where
-  pub lines_none : (g : List ℕ) → LinesSet sh d 0 C g g
-  lines_none g = record { same = refl; on = λ x y v h l e b. absurd (omega arith); off = λ x y v h l e b. refl; gaps = λ i gap. refl }
-
   pub lines_more : {n : ℕ} {g a b : List ℕ} {F : ℕ → ℕ → ℕ} → LinesSet sh d n C g a → LineSet sh d (line_no sh d n) F a b
       → ((x y : ℕ) → x < sh.width → y < sh.height → line_of d x y ≡ line_no sh d n → F x y ≡ C x y (get_or a (place sh (at x y)) 0)) → LinesSet sh d (n + 1) C g b
   lines_more {n} {g} {a} {b} {F} p q is =
@@ -106,35 +107,38 @@ module _ {sh : Shape} {d : Direction} {C : ℕ → ℕ → ℕ → ℕ} where
 -- ---- a line opened and put back
 
 -- gathered to the front of v, and opened there
-module _ {f : List ℕ} {sh : Shape} {d : Direction} {k : ℤ} {v v₁ : List ℕ} {a : Answer} (ok : Accepted sh d) (there : no_line sh d k ≡ false) (source : needed sh ≤ length f)
-    (room : longest ≤ length v) (g : Gathers f sh d k v v₁ a) where
+module _ {f : List ℕ} {sh : Shape} {d : Direction} {k : ℤ} {v v₁ : List ℕ} (r : Result ℕ Refusal) (ok : Accepted sh d) (there : no_line sh d k ≡ false) (source : needed sh ≤ length f)
+    (room : longest ≤ length v) (g : Gathers f sh d k v v₁ (counted r)) where
   line-long : length (line_read f sh d k) ≡ length (pixels sh d k)
   line-long = length-map (pixels sh d k) (λ (c : Pixel). get_or f (place sh c) 0)
 
   line-most : length (pixels sh d k) ≤ longest
   line-most = omega (arith, pixels-most sh d ok k, framed sh ok.frame)
 
-  says : a ≡ done (length (pixels sh d k))
+  says : counted r ≡ done (length (pixels sh d k))
   says = g.answers ∙ gather_done sh d k (length f) (length v) ok there source (omega (arith, line-most))
 
+  pub line-given : r ≡ Ok (length (pixels sh d k))
+  line-given = counted_once r (Ok (length (pixels sh d k))) says
+
   stands : v₁ ≡ front (line_read f sh d k) v
-  stands = g.written ∙ after-done a (front (line_read f sh d k) v) v (ap (λ (a : Answer). a.number) says)
+  stands = g.written ∙ after-done (counted r) (front (line_read f sh d k) v) v (ap (λ (a : Answer). a.number) says)
 
-  count : a.figure ≡ length (line_read f sh d k)
-  count = ap (λ (a : Answer). a.figure) says ∙ sym line-long
+  count : {n : ℕ} → r ≡ Ok n → n ≡ length (line_read f sh d k)
+  count e = ap (λ (r : Result ℕ Refusal). (counted r).figure) (sym e) ∙ ap (λ (a : Answer). a.figure) says ∙ sym line-long
 
-  pub line-room : a.figure ≤ length v₁
-  line-room = omega (arith, count, line-long, line-most, ap length stands ∙ front_length v (line_read f sh d k) (omega (arith, line-long, line-most)))
+  pub line-room : {n : ℕ} → r ≡ Ok n → n ≤ length v₁
+  line-room e = omega (arith, count e, line-long, line-most, ap length stands ∙ front_length v (line_read f sh d k) (omega (arith, line-long, line-most)))
 
-  pub line-opened : {L : ℕ} {e : List ℕ} → 1 ≤ L → e ≡ opened_in_place (take a.figure v₁) L → LineOpened f sh d L k (e ++ drop a.figure v₁)
-  line-opened {L} {e} some is =
+  pub line-opened : {n L : ℕ} {e : List ℕ} → r ≡ Ok n → 1 ≤ L → e ≡ opened_in_place (take n v₁) L → LineOpened f sh d L k (e ++ drop n v₁)
+  line-opened {n} {L} {e} given some is =
       let line = line_read f sh d k in
-      let lent : take a.figure v₁ ≡ line = ap₂ take count stands ∙ take-append_seam line (drop (length line) v) in
+      let lent : take n v₁ ≡ line = ap₂ take (count given) stands ∙ take-append_seam line (drop (length line) v) in
       let opens : e ≡ opened line L = is ∙ rw (le-ltb L 1 some) (ap (λ (l : List ℕ). opened l L) lent) in
       let long : length e ≡ length (pixels sh d k) = ap length opens ∙ opened-length line L ∙ line-long in
       record {
-        room = omega (arith, long, length-append e (drop a.figure v₁));
-        is = λ j h. get_or-append e (drop a.figure v₁) 0 j (omega (arith, long)) ∙ ap (λ (l : List ℕ). get_or l j 0) opens;
+        room = omega (arith, long, length-append e (drop n v₁));
+        is = λ j h. get_or-append e (drop n v₁) 0 j (omega (arith, long)) ∙ ap (λ (l : List ℕ). get_or l j 0) opens;
       }
 
 module _ {f : List ℕ} {sh : Shape} {d : Direction} {L : ℕ} {k : ℤ} {v : List ℕ} (o : LineOpened f sh d L k v) where

@@ -18,19 +18,16 @@ fn claim_rows(new: &[Pixel], number: u8, shape: Shape, dst: &mut [Pixel], direct
     requires { (is_frame shape ≡ true) × (shape.width * shape.height ≤ lib.ListN.length new.now) × (needed shape ≤ lib.ListN.length dst.old) × (needed shape ≤ lib.ListN.length directions.old) }
     ensures { FrameClaimed shape (λ (x y : ℕ). get_or new.now (place (gapless shape) (at x y)) 0) number dst.old dst.new directions.old directions.new }
 {
-    let width = shape.width;
-    let mut y = 0;
-    while y < shape.height {
+    for y in 0..shape.height {
         passes::claim(
             new,
-            y * width,
-            width,
+            y * shape.width,
+            shape.width,
             number,
             dst,
             directions,
             y * shape.stride,
         );
-        y += 1;
     }
 }
 
@@ -48,17 +45,15 @@ fn claim_lines(
     ensures { FrameClaimed shape (opened_pixel src.now shape d length) number dst.old dst.new directions.old directions.new }
 {
     let lines = frame::lines_of(shape, d);
-    let count = lines.count;
     let mut values: [Pixel; LONGEST] = [0; LONGEST];
-    let mut u = 0;
-    while u < count {
+    for u in 0..lines.count {
         let line = opened_line(src, shape, d, u, length, &mut values);
         gathering::claim(&values, number, shape, d, line, dst, directions);
-        u += 1;
     }
 }
 
 // The same: by way of scratch, where a frame without gaps has room there, else line by line.
+// dst and directions are not one struct: `highest` is lent them apart, and `passes::claim` and `gathering::claim` take them apart.
 pub(crate) fn claim_by(
     src: &[Pixel],
     number: u8,
@@ -72,11 +67,10 @@ pub(crate) fn claim_by(
     requires { Ready shape d length (lib.ListN.length src.now) (min (lib.ListN.length dst.old) (lib.ListN.length directions.old)) }
     ensures { FrameClaimed shape (opened_pixel src.now shape d length) number dst.old dst.new directions.old directions.new }
 {
-    let width = shape.width;
-    if scratch.len() < width * shape.height {
+    if scratch.len() < shape.width * shape.height {
         claim_lines(src, number, shape, d, length, dst, directions);
-        return;
+    } else {
+        opened_into(src, shape, d, length, shape.width, scratch);
+        claim_rows(scratch, number, shape, dst, directions);
     }
-    opened_into(src, shape, d, length, width, scratch);
-    claim_rows(scratch, number, shape, dst, directions);
 }

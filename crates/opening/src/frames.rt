@@ -5,16 +5,18 @@ ghost use Rattle.frame.specs.Shape.{shape as frame, is_frame, needed};
 ghost use Rattle.frame.specs.Sweep.{Accepted};
 ghost use Rattle.frame.specs.Painted.{Painted};
 ghost use Rattle.opening.specs.Pixels.{opened_pixel};
+ghost use Rattle.answer.specs.Refusals.{settled};
 ghost use Rattle.opening.specs.Frames.{OpensFrame};
 
 use crate::Pixel;
-use crate::lent::refusal;
+use crate::lent::tested;
 use crate::rowwise::open_rows;
-use answer::Answer;
+use answer::Refusal;
 use frame::{Direction, Shape};
 
 // The frame src, opened in the direction d with windows of `length` pixels, into dst, a frame of the same width and height whose rows are `stride` apart. Along, each row is opened as it
 // comes; else dst gets a copy, by windows of one pixel, and is opened where it stands.
+// src and its shape are not one struct, here and in the functions below: dst and the directions have the same shape, so that it belongs to none of the three.
 pub(crate) fn opened_into(
     src: &[Pixel],
     shape: Shape,
@@ -26,25 +28,20 @@ pub(crate) fn opened_into(
     requires { (is_frame shape ≡ true) × Accepted (frame shape.width shape.height stride) d × (1 ≤ length) × (needed shape ≤ lib.ListN.length src.now) × (needed (frame shape.width shape.height stride) ≤ lib.ListN.length dst.old) }
     ensures { Painted (frame shape.width shape.height stride) (opened_pixel src.now shape d length) dst.old dst.new }
 {
-    let q = d.q;
-    if q == 0 {
+    if d.q == 0 {
         open_rows(src, shape, length, stride, dst);
         return;
     }
     open_rows(src, shape, 1, stride, dst);
-    let frame = Shape {
-        width: shape.width,
-        height: shape.height,
-        stride,
-    };
+    let frame = Shape { stride, ..shape };
     if d.goes_down() {
         rows::open_down(dst, frame, d, length);
-        return;
+    } else {
+        rows::open_shallow(dst, frame, d, length);
     }
-    rows::open_shallow(dst, frame, d, length);
 }
 
-// Opens each line of the frame src in the direction d, into the frame dst, with windows as long as `length` pixels along a row. Hands back 0. Rules 1, 2, 3, 5, 6, 7.
+// Opens each line of the frame src in the direction d, into the frame dst, with windows as long as `length` pixels along a row. Rules 1, 2, 3, 5, 6, 7.
 pub fn open_frame(
     src: &[Pixel],
     shape: Shape,
@@ -52,14 +49,10 @@ pub fn open_frame(
     length: usize,
     dst: &mut [Pixel],
     scratch: &mut [u8],
-) -> Answer
-    ensures { OpensFrame src.now shape d length dst.old dst.new scratch.old scratch.new result }
+) -> Result<(), Refusal>
+    ensures { OpensFrame src.now shape d length dst.old dst.new scratch.old scratch.new (settled result) }
 {
-    let a = refusal(shape, d, length, src.len(), dst.len(), scratch.len());
-    if a.number != 0 {
-        return a;
-    }
-    let stride = shape.stride;
-    opened_into(src, shape, d, d.pixels_for(length), stride, dst);
-    a
+    tested(shape, d, length, src.len(), dst.len(), scratch.len())?;
+    opened_into(src, shape, d, d.pixels_for(length), shape.stride, dst);
+    Ok(())
 }

@@ -1,22 +1,24 @@
 // The entry for the camera's host, written in C: numbers and byte slices in, one number back. The crate `opening_c` exports it.
 ghost use Rattle.std.specs.Prelude.{◌≡◌};
+ghost use Rattle.answer.specs.Refusals.{settled};
 ghost use Rattle.frame.specs.Direction.{dir};
 ghost use Rattle.frame.specs.Shape.{shape};
 ghost use Rattle.opening.specs.Host.{one_number, HostOpens};
 
 use crate::Pixel;
 use crate::frames::open_frame;
-use answer::Answer;
+use answer::{Answer, Refusal};
 use frame::{Direction, Shape};
 
 // What a refusal's number counts in the one number that the host gets: 2^32.
-const UNIT: u64 = 4294967296;
+const UNIT: u64 = 1 << 32;
 
-// The number times 2^32, plus the figure.
-fn one_number(a: Answer) -> u64
-    ensures { result ≡ one_number a }
+// The refusal's number times 2^32, plus the figure; a product and no shift, as the sentence has it.
+fn one_number(outcome: Result<(), Refusal>) -> u64
+    ensures { result ≡ one_number (settled outcome) }
 {
-    a.number as u64 * UNIT + a.figure % UNIT
+    let answer = Answer::from(outcome);
+    u64::from(answer.number) * UNIT + answer.figure % UNIT
 }
 
 // Opens a frame as `open_frame` does.

@@ -23,8 +23,7 @@ pub(crate) fn opened_line(
     ensures { (result ≡ first_line shape d +ℤ pos u) × LineOpened src.now shape d length (first_line shape d +ℤ pos u) values.new }
 {
     let line = frame::line_number(shape, d, u);
-    let a = gathering::gather(src, shape, d, line, values);
-    let n = a.figure as usize;
-    line::open_in_place(&mut values[..n], length);
+    let count = gathering::gather(src, shape, d, line, values).unwrap();
+    line::open_in_place(&mut values[..count], length);
     line
 }

@@ -3,15 +3,16 @@ ghost use Rattle.std.specs.Prelude.{◌≡◌, min};
 ghost use lib.ListN;
 ghost use Rattle.frame.specs.Direction.{along};
 ghost use Rattle.frame.specs.Painted.{Painted};
+ghost use Rattle.answer.specs.Refusals.{settled};
 ghost use Rattle.opening.specs.Pixels.{highest_at, direction_at};
 ghost use Rattle.opening.specs.Sixteen.{FindsHighest};
 ghost use Rattle.opening.specs.Steps.{Ready};
 
 use crate::Pixel;
 use crate::claiming::claim_by;
-use crate::lent::refusal;
+use crate::lent::tested;
 use crate::rowwise::{blacken, open_rows};
-use answer::Answer;
+use answer::Refusal;
 use frame::{Direction, Shape};
 
 // Direction 0 is along: it holds every pixel at first, with its rows as the best, and the others claim pixels in their order.
@@ -26,27 +27,17 @@ fn highest_into(
     requires { Ready shape along length (lib.ListN.length src.now) (min (lib.ListN.length dst.old) (lib.ListN.length directions.old)) }
     ensures { Painted shape (highest_at src.now shape length) dst.old dst.new × Painted shape (direction_at src.now shape length) directions.old directions.new }
 {
-    let stride = shape.stride;
-    open_rows(src, shape, length, stride, dst);
+    open_rows(src, shape, length, shape.stride, dst);
     blacken(shape, directions);
-    let mut n = 1;
-    while n < 16 {
-        let d = Direction::numbered(n);
+    for n in 1..16u8 {
+        let d = Direction::numbered(usize::from(n));
         let pixels = d.pixels_for(length);
-        claim_by(src, n as u8, shape, d, pixels, dst, directions, scratch);
-        n += 1;
+        claim_by(src, n, shape, d, pixels, dst, directions, scratch);
     }
 }
 
-// The lesser of two sizes.
-fn lesser(a: usize, b: usize) -> usize
-    ensures { result ≡ min a b }
-{
-    if a < b { a } else { b }
-}
-
 // At each pixel of the frame src, into the frame dst the greatest of its openings in the sixteen numbered directions, with windows as long as `length` pixels
-// along a row, and into the frame `directions` the number of the direction, the lowest of them, that reaches it. Hands back 0. Rules 1, 3, 5, 6 of either, 7.
+// along a row, and into the frame `directions` the number of the direction, the lowest of them, that reaches it. Rules 1, 3, 5, 6 of either, 7.
 // Where scratch has width·height bytes, which rule 7 does not ask for, it is many times as fast.
 pub fn highest(
     src: &[Pixel],
@@ -55,16 +46,19 @@ pub fn highest(
     dst: &mut [Pixel],
     directions: &mut [u8],
     scratch: &mut [u8],
-) -> Answer
-    ensures { FindsHighest src.now shape length dst.old dst.new directions.old directions.new scratch.old scratch.new result }
+) -> Result<(), Refusal>
+    ensures { FindsHighest src.now shape length dst.old dst.new directions.old directions.new scratch.old scratch.new (settled result) }
 {
     // both need as much, so the shorter one speaks for both
-    let room = lesser(dst.len(), directions.len());
-    let along = Direction::Along;
-    let a = refusal(shape, along, length, src.len(), room, scratch.len());
-    if a.number != 0 {
-        return a;
-    }
+    let room = dst.len().min(directions.len());
+    tested(
+        shape,
+        Direction::Along,
+        length,
+        src.len(),
+        room,
+        scratch.len(),
+    )?;
     highest_into(src, shape, length, dst, directions, scratch);
-    a
+    Ok(())
 }

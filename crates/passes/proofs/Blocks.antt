@@ -1,25 +1,20 @@
 -- A pass by blocks, in place, whatever its partners are: what it has yet to read is as it was where it began.
---   Awaits partner at n              a pass upward over the n pixels from `at` on finds partner j as it was until it has come to pixel j
---   Outlasts partner at n            the same of a pass downward
---   Keeps up partner at n            the same of a pass that goes one of the two ways
+--   Goes up at near far n            a pass that goes upward where `up`, else downward, finds those from `near` on and those from `far` on as they were
 --   goes_by, goes_straight           the way that a pass goes
 --   last-at                          where the last block stands
---   straight-keeps, bent-keeps                       partners in two rows that the pass does not change before it reads them
---   one_of                           one of two numbers
---   bent-is                          the pixel that a mark names
+--   straight-keeps, bent-keeps       partners in two rows that the pass does not change before it reads them
 --   met-is                           what a turn makes of what it reads
 --   met_ahead, met-behind            the same of what it finds, in terms of where the pass began: upward, and downward
 --   met_block, met_block_before      a block of c pixels more, behind the others or before them
 --   met-late, met_early              a block made in the course of a pass is as one made where it began: upward, and downward
 --   met-last, met-first              a block stored over some of the others
---   met-once                         a row of one block
---   met-none, met-more, met-ends     a row by blocks, either way: none yet, one more, and the last two, which overlap
+--   met-more, met-ends               a row by blocks, either way: one more, and the last two, which overlap
 -- Assumes nothing.
 use mathlib.Core.Path.{◌≡◌, refl, sym, ap, ap₂, ◌∙◌}
 use mathlib.Core.Bool.{Bool, true, false, cond}
 use mathlib.Core.List.{List}
 use mathlib.Core.Logic.{inl, ⊎_elim}
-use Prim.Native.Nat.{ℕ, ◌+◌, ◌-◌, ◌*◌, ◌≤◌, ◌<◌, max}
+use Prim.Native.Nat.{ℕ, ◌+◌, ◌-◌, ◌*◌, ◌≤◌, ◌<◌}
 use native.Mathlib.Nat.{le_refl}
 use native.Mathlib.Omega.{arith}
 use borrow.Author.Tests.{leb-true, leb-false}
@@ -27,18 +22,14 @@ use lib.Dec.{eqb, leb}
 use lib.ListN.{get_or}
 use Rattle.lists.specs.Stores.{Filled}
 use Rattle.lists.proofs.Cases.{less_or_not}
-use Rattle.lists.proofs.Stores.{filled_none, filled_as, filled-start, filled_end, filled_join, filled_join_before}
-use Rattle.passes.specs.Passes.{straight, bent, met, block_at, treated_from, treated_to, Ahead, Goes, Parted}
+use Rattle.lists.proofs.Stores.{filled_as, filled-start, filled_end, filled_join, filled_join_before}
+use Rattle.passes.specs.Passes.{straight, bent, met, block_at, treated_from, treated_to, Ahead, Awaits, Outlasts, Keeps, Parted}
 
 -- ---- partners
 
-abbrev pub Awaits : (List ℕ → ℕ → ℕ) → ℕ → ℕ → Type 0
-Awaits partner at n =
-    (g a : List ℕ) (s t : ℕ) (F : ℕ → ℕ) (j : ℕ) → Filled g a s t F → at ≤ s → t ≤ at + j → j < n → partner a j ≡ partner g j
-
-abbrev pub Outlasts : (List ℕ → ℕ → ℕ) → ℕ → ℕ → Type 0
-Outlasts partner at n =
-    (g a : List ℕ) (s t : ℕ) (F : ℕ → ℕ) (j : ℕ) → Filled g a s t F → t ≤ at + n → at + j < s → partner a j ≡ partner g j
+pub record Goes (up : Bool) (at near far n : ℕ) : Type 0 where
+  pub upward : up ≡ true → Ahead at near n × Ahead at far n
+  pub downward : up ≡ false → Ahead near at n × Ahead far at n
 
 pub straight_awaits : (at from n : ℕ) → Ahead at from n → Awaits (straight from) at n
 straight_awaits at from n q g a s t F j f low next here =
@@ -65,15 +56,6 @@ bent_awaits m at near far n p q g a s t F j f low next here =
 pub bent_outlasts : (m : List ℕ) (at near far n : ℕ) → Ahead near at n → Ahead far at n → Outlasts (bent m near far) at n
 bent_outlasts m at near far n p q g a s t F j f high here =
     bent-same m a g near far j (straight_outlasts at near n p g a s t F j f high here) (straight_outlasts at far n q g a s t F j f high here)
-
--- of two numbers, one of them taken as 0
-pub one_of : (b : Bool) (x y : ℕ) → max (cond b x 0) (cond b 0 y) ≡ cond b x y
-one_of true x y = omega arith
-one_of false x y = omega arith
-
-pub bent-is : (m : List ℕ) (near far : ℕ) (g : List ℕ) (j : ℕ) → cond (eqb (get_or m j 0) 0) (get_or g (near + j) 0) (get_or g (far + j) 0) ≡ bent m near far g j
-unfolding bent
-bent-is m near far g j = refl
 
 -- ---- a pass
 
@@ -169,10 +151,6 @@ module _ (op : ℕ → ℕ → ℕ) (partner : List ℕ → ℕ → ℕ) (at : �
 
 -- ---- a row, either way
 
-pub record Keeps (up : Bool) (partner : List ℕ → ℕ → ℕ) (at n : ℕ) : Type 0 where
-  pub upward : up ≡ true → Awaits partner at n
-  pub downward : up ≡ false → Outlasts partner at n
-
 pub bent-keeps : {up : Bool} (m : List ℕ) {at near far n : ℕ} → Goes up at near far n → Keeps up (bent m near far) at n
 bent-keeps m {at} {near} {far} {n} goes =
     record {
@@ -206,18 +184,6 @@ goes_straight at from n =
     }
 
 module _ (op : ℕ → ℕ → ℕ) (partner : List ℕ → ℕ → ℕ) (at n : ℕ) where
-  pub met-once : {g b : List ℕ} (t : List ℕ) → ((k : ℕ) → k < n → get_or t k 0 ≡ op (get_or g (at + (0 + k)) 0) (partner g (0 + k)))
-      → Filled g b at (at + n) (λ (k : ℕ). get_or t (k - at) 0) → Filled g b at (at + n) (met op partner at g)
-  met-once {g} t v p =
-      filled_as p (met op partner at g)
-      (λ x l h.
-      let e : at + (0 + (x - at)) ≡ x = omega arith in
-      v (x - at) (omega arith) ∙ met-is op partner at g (0 + (x - at)) x e)
-
-  pub met-none : (up : Bool) (g : List ℕ) → Filled g g (at + treated_from n 0 up) (at + treated_to n 0 up) (met op partner at g)
-  met-none true g = filled_end (filled_none g (at + 0) (met op partner at g)) (omega arith)
-  met-none false g = filled_end (filled_none g (at + (n - 64 * 0)) (met op partner at g)) (omega arith)
-
   -- t is block k of the row, and stands at i
   pub met-more : (up : Bool) → Keeps up partner at n → {g a b : List ℕ} (t : List ℕ) (k i : ℕ) → i ≡ block_at n k up
       → Filled g a (at + treated_from n k up) (at + treated_to n k up) (met op partner at g) → 64 * k + 64 ≤ n

@@ -4,7 +4,9 @@
 --   bent m near far g j        pixel j of one of two rows: of the one at `near` where the mark j of m is 0, or there is none, else of the one at `far`
 --   met op partner at g x      what pixel x becomes, in a row that starts at `at`: op of it and of its partner
 --   Ahead at from n            a pass that goes upward over the n pixels from `at` on finds the n from `from` on as they were
---   Goes up at near far n      a pass that goes upward where `up`, else downward, finds those from `near` on and those from `far` on as they were
+--   Awaits partner at n        a pass upward over the n pixels from `at` on finds partner j as it was until it has come to pixel j
+--   Outlasts partner at n      the same of a pass downward
+--   Keeps up partner at n      the same of a pass that goes upward where `up`, else downward
 --   Fits marks at near far n size  the rows are in a buffer of size pixels, and each pixel has its mark
 --   Parted at near far n       a pass that goes upward where `near` is `at` or behind it, else downward, finds those from `far` on as they were
 --   block_at n k up            where block k of a row of n pixels begins, in the order of the pass
@@ -34,9 +36,17 @@ met op partner at g x = op (get_or g x 0) (partner g (x - at))
 abbrev pub Ahead : ℕ → ℕ → ℕ → Type 0
 Ahead at from n = (at ≤ from) ⊎ (from + n ≤ at)
 
-pub record Goes (up : Bool) (at near far n : ℕ) : Type 0 where
-  pub upward : up ≡ true → Ahead at near n × Ahead at far n
-  pub downward : up ≡ false → Ahead near at n × Ahead far at n
+abbrev pub Awaits : (List ℕ → ℕ → ℕ) → ℕ → ℕ → Type 0
+Awaits partner at n =
+    (g a : List ℕ) (s t : ℕ) (F : ℕ → ℕ) (j : ℕ) → Filled g a s t F → at ≤ s → t ≤ at + j → j < n → partner a j ≡ partner g j
+
+abbrev pub Outlasts : (List ℕ → ℕ → ℕ) → ℕ → ℕ → Type 0
+Outlasts partner at n =
+    (g a : List ℕ) (s t : ℕ) (F : ℕ → ℕ) (j : ℕ) → Filled g a s t F → t ≤ at + n → at + j < s → partner a j ≡ partner g j
+
+pub record Keeps (up : Bool) (partner : List ℕ → ℕ → ℕ) (at n : ℕ) : Type 0 where
+  pub upward : up ≡ true → Awaits partner at n
+  pub downward : up ≡ false → Outlasts partner at n
 
 abbrev pub Fits : ℕ → ℕ → ℕ → ℕ → ℕ → ℕ → Type 0
 Fits marks at near far n size = (at + n ≤ size) × (near + n ≤ size) × (far + n ≤ size) × (n ≤ marks)

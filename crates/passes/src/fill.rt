@@ -1,31 +1,19 @@
 // Pixels that become 0, and pixels that are copied.
-ghost use Rattle.std.specs.Prelude.{cond, ℕ, ◌+◌, ◌-◌, ◌≤◌, eqb, length, get_or};
+ghost use Rattle.std.specs.Prelude.{cond, ℕ, ◌≡◌, ◌+◌, ◌-◌, ◌≤◌, eqb, length, get_or};
 ghost use Rattle.lists.specs.Stores.{Filled};
 ghost use Rattle.passes.specs.Passes.{Clears, Fades, ClearsBent, Copies};
 
 use crate::Pixel;
-use crate::block::either;
+use crate::partner::either;
 use crate::pass::is_within;
-
-fn blacken_row(buf: &mut [Pixel], at: usize, n: usize)
-    requires { at + n ≤ length buf.old }
-    ensures { Filled buf.old buf.new at (at + n) (λ (k : ℕ). 0) }
-{
-    let mut i = 0;
-    while i < n {
-        buf[at + i] = 0;
-        i += 1;
-    }
-}
 
 // Each of the n pixels from `at` on becomes 0. Where they are not all in the buffer, nothing changes.
 pub fn blacken(buf: &mut [Pixel], at: usize, n: usize)
     ensures { Clears at n buf.old buf.new }
 {
-    if !is_within(buf.len(), at, n) {
-        return;
+    if is_within(buf.len(), at, n) {
+        buf[at..at + n].fill(0);
     }
-    blacken_row(buf, at, n);
 }
 
 // Each of the n pixels from `at` on meets 0, as one does that has no partner: it becomes 0, or stays as it is. Where they are not all in the buffer, nothing changes.
@@ -37,14 +25,13 @@ pub fn fade(buf: &mut [Pixel], at: usize, n: usize, darker: bool)
     }
 }
 
-fn blacken_marked(buf: &mut [Pixel], bends: &[u8], at: usize, n: usize)
-    requires { (at + n ≤ length buf.old) × (n ≤ length bends.now) }
-    ensures { Filled buf.old buf.new at (at + n) (λ (x : ℕ). cond (eqb (get_or bends.now (x - at) 0) 0) (get_or buf.old x 0) 0) }
+// Not over a `zip`: of what such a loop writes through `iter_mut` a proof knows only the length.
+fn blacken_marked(row: &mut [Pixel], marks: &[u8])
+    requires { length row.old ≡ length marks.now }
+    ensures { Filled row.old row.new 0 (length row.old) (λ (k : ℕ). cond (eqb (get_or marks.now k 0) 0) (get_or row.old k 0) 0) }
 {
-    let mut i = 0;
-    while i < n {
-        buf[at + i] = either(bends[i], buf[at + i], 0);
-        i += 1;
+    for (i, pixel) in row.iter_mut().enumerate() {
+        *pixel = either(marks[i], *pixel, 0);
     }
 }
 
@@ -52,23 +39,19 @@ fn blacken_marked(buf: &mut [Pixel], bends: &[u8], at: usize, n: usize)
 pub fn blacken_bent(buf: &mut [Pixel], bends: &[u8], at: usize, n: usize)
     ensures { ClearsBent bends.now at n buf.old buf.new }
 {
-    if bends.len() < n {
-        return;
+    if n <= bends.len() && is_within(buf.len(), at, n) {
+        blacken_marked(&mut buf[at..at + n], &bends[..n]);
     }
-    if !is_within(buf.len(), at, n) {
-        return;
-    }
-    blacken_marked(buf, bends, at, n);
 }
 
-fn copy_front(src: &[Pixel], n: usize, dst: &mut [Pixel])
-    requires { (n ≤ length src.now) × (n ≤ length dst.old) }
-    ensures { Filled dst.old dst.new 0 n (λ (k : ℕ). get_or src.now k 0) }
+// Not by `copy_from_slice`: where that is inlined, the compiler no longer keeps blocks on the stack apart from the row, and rows opened in place take over twice
+// the time.
+fn copy_row(row: &mut [Pixel], src: &[Pixel])
+    requires { length row.old ≡ length src.now }
+    ensures { Filled row.old row.new 0 (length row.old) (λ (k : ℕ). get_or src.now k 0) }
 {
-    let mut i = 0;
-    while i < n {
-        dst[i] = src[i];
-        i += 1;
+    for (i, pixel) in row.iter_mut().enumerate() {
+        *pixel = src[i];
     }
 }
 
@@ -76,11 +59,7 @@ fn copy_front(src: &[Pixel], n: usize, dst: &mut [Pixel])
 pub fn copy(src: &[Pixel], n: usize, dst: &mut [Pixel])
     ensures { Copies src.now n dst.old dst.new }
 {
-    if src.len() < n {
-        return;
+    if n <= src.len() && n <= dst.len() {
+        copy_row(&mut dst[..n], &src[..n]);
     }
-    if dst.len() < n {
-        return;
-    }
-    copy_front(src, n, dst);
 }

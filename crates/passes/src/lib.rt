@@ -4,8 +4,8 @@
 #![tactic(auto)]
 
 mod between;
-mod block;
 mod fill;
+mod partner;
 mod pass;
 
 // What is met, made 0, copied and claimed; marks and the numbers of holders are bytes.

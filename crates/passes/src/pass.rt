@@ -1,146 +1,115 @@
 // A pass over a row, in place. It goes the way on which it finds what it has yet to read as it was: upward where the partners begin at the row or behind it,
 // downward where they begin before it. The last two blocks overlap, so that nothing is left to go one by one: both are made before either is stored.
-ghost use Rattle.std.specs.Prelude.{◌≡◌, true, false, cond, ℕ, ◌+◌, ◌-◌, ◌*◌, ◌/◌, ◌≤◌, ◌<◌, max, length};
+ghost use Rattle.std.specs.Prelude.{◌≡◌, ◌↔◌, IsTrue, true, false, cond, ℕ, ◌+◌, ◌-◌, ◌*◌, ◌/◌, ◌≤◌, ◌<◌, max, length, get_or};
 ghost use Rattle.lists.specs.Stores.{Filled};
-ghost use Rattle.passes.specs.Passes.{op, straight, bent, met, block_at, treated_from, treated_to, Ahead, Fits, Parted, Goes, Meets, MeetsBent};
+ghost use Rattle.passes.specs.Passes.{op, straight, bent, met, block_at, treated_from, treated_to, Ahead, Fits, Parted, Keeps, Meets, MeetsBent};
 
 use crate::Pixel;
-use crate::block::{bent_block, put_block, straight_block};
+use crate::partner::{Bent, Partner, Straight, of_two};
 
 // Where block k of a row of n pixels begins: the pass takes the first block first where it goes upward, else the last.
 fn block_at(n: usize, k: usize, up: bool) -> usize
     requires { 64 * k + 64 ≤ n }
     ensures { (result ≡ block_at n k up) × (result + 64 ≤ n) }
 {
-    if up {
-        return 64 * k;
+    if up { 64 * k } else { n - 64 * k - 64 }
+}
+
+// The first n pixels of the block come to `at`. Not by `copy_from_slice`, which costs speed here as in fill.rt.
+fn store(buf: &mut [Pixel], at: usize, block: [Pixel; 64], n: usize)
+    requires { (n ≤ 64) × (at + n ≤ length buf.old) }
+    ensures { Filled buf.old buf.new at (at + n) (λ (k : ℕ). get_or block (k - at) 0) }
+{
+    for k in 0..n {
+        buf[at + k] = block[k];
     }
-    n - 64 * k - 64
+}
+
+// What n pixels become, from pixel i of the row on. A pass has read all of a block before it writes any of it, so it works in place and compiles to vector
+// instructions. What a pass needs goes by values, and not as a struct with methods: behind `&self` the loop over the blocks asks for each of them which of the
+// two and which way, and slanted lines take a tenth longer.
+fn made<P: Partner + Copy>(
+    buf: &[Pixel],
+    at: usize,
+    partner: P,
+    i: usize,
+    n: usize,
+    darker: bool,
+) -> [Pixel; 64]
+    requires { (n ≤ 64) × (at + i + n ≤ length buf.now) × ((k : ℕ) → k < n → P.Within partner (i + k) (length buf.now)) }
+    ensures { (k : ℕ) → k < n → get_or result k 0 ≡ op darker (get_or buf.now (at + (i + k)) 0) (P.of partner buf.now (i + k)) }
+{
+    let mut made: [Pixel; 64] = [0; 64];
+    for (k, pixel) in made[..n].iter_mut().enumerate() {
+        let j = i + k;
+        *pixel = of_two(buf[at + j], partner.of(buf, j), darker);
+    }
+    made
 }
 
 // Each pixel of the `count` blocks that the pass takes first becomes the darker or the brighter of itself and its partner.
-fn straight_blocks(
+fn run_blocks<P: Partner + Copy>(
     buf: &mut [Pixel],
     at: usize,
-    from: usize,
+    partner: P,
     n: usize,
     count: usize,
     up: bool,
     darker: bool,
 )
-    requires { (at + n ≤ length buf.old) × (from + n ≤ length buf.old) × Goes up at from from n × (64 * count ≤ n) }
-    ensures { Filled buf.old buf.new (at + treated_from n count up) (at + treated_to n count up) (met (op darker) (straight from) at buf.old) }
+    requires row { at + n ≤ length buf.old }
+    requires partners { (j : ℕ) → j < n → P.Within partner j (length buf.old) }
+    requires keeps { Keeps up (P.of partner) at n }
+    requires blocks { 64 * count ≤ n }
+    ensures { Filled buf.old buf.new (at + treated_from n count up) (at + treated_to n count up) (met (op darker) (P.of partner) at buf.old) }
 {
-    let mut k = 0;
-    while k < count {
+    for k in 0..count {
         let i = block_at(n, k, up);
-        let t = straight_block(buf, at, from, i, 64, darker);
-        put_block(buf, at + i, 64, t);
-        k += 1;
+        let block = made(buf, at, partner, i, 64, darker);
+        store(buf, at + i, block, 64);
     }
 }
 
 // The same of all n pixels: up to 64 as one block.
-fn straight_row(buf: &mut [Pixel], at: usize, from: usize, n: usize, up: bool, darker: bool)
-    requires { (at + n ≤ length buf.old) × (from + n ≤ length buf.old) × Goes up at from from n }
-    ensures { Filled buf.old buf.new at (at + n) (met (op darker) (straight from) at buf.old) }
+fn run<P: Partner + Copy>(
+    buf: &mut [Pixel],
+    at: usize,
+    partner: P,
+    n: usize,
+    up: bool,
+    darker: bool,
+)
+    requires row { at + n ≤ length buf.old }
+    requires partners { (j : ℕ) → j < n → P.Within partner j (length buf.old) }
+    requires keeps { Keeps up (P.of partner) at n }
+    ensures { Filled buf.old buf.new at (at + n) (met (op darker) (P.of partner) at buf.old) }
 {
     if n < 65 {
-        let t = straight_block(buf, at, from, 0, n, darker);
-        put_block(buf, at, n, t);
+        let block = made(buf, at, partner, 0, n, darker);
+        store(buf, at, block, n);
         return;
     }
     let count = (n - 65) / 64;
     let i = block_at(n, count, up);
     let j = n - 64 - block_at(n, 0, up);
-    straight_blocks(buf, at, from, n, count, up, darker);
-    let next = straight_block(buf, at, from, i, 64, darker);
-    let last = straight_block(buf, at, from, j, 64, darker);
-    put_block(buf, at + i, 64, next);
-    put_block(buf, at + j, 64, last);
-}
-
-// The same with partners in two rows.
-fn bent_blocks(
-    buf: &mut [Pixel],
-    bends: &[u8],
-    at: usize,
-    near: usize,
-    far: usize,
-    n: usize,
-    count: usize,
-    up: bool,
-    darker: bool,
-)
-    requires { Fits (length bends.now) at near far n (length buf.old) × Goes up at near far n × (64 * count ≤ n) }
-    ensures { Filled buf.old buf.new (at + treated_from n count up) (at + treated_to n count up) (met (op darker) (bent bends.now near far) at buf.old) }
-{
-    let mut k = 0;
-    while k < count {
-        let i = block_at(n, k, up);
-        let t = bent_block(buf, bends, at, near, far, i, 64, darker);
-        put_block(buf, at + i, 64, t);
-        k += 1;
-    }
-}
-
-fn bent_row(
-    buf: &mut [Pixel],
-    bends: &[u8],
-    at: usize,
-    near: usize,
-    far: usize,
-    n: usize,
-    up: bool,
-    darker: bool,
-)
-    requires { Fits (length bends.now) at near far n (length buf.old) × Goes up at near far n }
-    ensures { Filled buf.old buf.new at (at + n) (met (op darker) (bent bends.now near far) at buf.old) }
-{
-    if n < 65 {
-        let t = bent_block(buf, bends, at, near, far, 0, n, darker);
-        put_block(buf, at, n, t);
-        return;
-    }
-    let count = (n - 65) / 64;
-    let i = block_at(n, count, up);
-    let j = n - 64 - block_at(n, 0, up);
-    bent_blocks(buf, bends, at, near, far, n, count, up, darker);
-    let next = bent_block(buf, bends, at, near, far, i, 64, darker);
-    let last = bent_block(buf, bends, at, near, far, j, 64, darker);
-    put_block(buf, at + i, 64, next);
-    put_block(buf, at + j, 64, last);
+    run_blocks(buf, at, partner, n, count, up, darker);
+    let next = made(buf, at, partner, i, 64, darker);
+    let last = made(buf, at, partner, j, 64, darker);
+    store(buf, at + i, next, 64);
+    store(buf, at + j, last, 64);
 }
 
 // Whether the n pixels from `at` on are among `size`.
 pub(crate) fn is_within(size: usize, at: usize, n: usize) -> bool
-    ensures { (result ≡ true → at + n ≤ size) × (result ≡ false → at + n ≤ size → ⊥) }
+    ensures { IsTrue result ↔ (at + n ≤ size) }
 {
-    if size < at {
-        return false;
-    }
-    if size - at < n {
-        return false;
-    }
-    true
-}
-
-fn later(a: usize, b: usize) -> usize
-    ensures { result ≡ max a b }
-{
-    if a < b { b } else { a }
+    at <= size && n <= size - at
 }
 
 fn is_ahead(at: usize, from: usize, n: usize) -> bool
-    ensures { (result ≡ true → Ahead at from n) × (result ≡ false → Ahead at from n → ⊥) }
+    ensures { IsTrue result ↔ Ahead at from n }
 {
-    if at <= from {
-        return true;
-    }
-    if at - from < n {
-        return false;
-    }
-    true
+    at <= from || n <= at - from
 }
 
 // Each of the n pixels from `at` on becomes the darker of itself and its partner among those from `from` on, or the brighter. Where one of them is not in the
@@ -148,29 +117,26 @@ fn is_ahead(at: usize, from: usize, n: usize) -> bool
 pub fn meet(buf: &mut [Pixel], at: usize, from: usize, n: usize, darker: bool)
     ensures { Meets darker at from n buf.old buf.new }
 {
-    if !is_within(buf.len(), later(at, from), n) {
-        return;
+    if is_within(buf.len(), at.max(from), n) {
+        run(buf, at, Straight { from }, n, at <= from, darker);
     }
-    straight_row(buf, at, from, n, at <= from, darker);
 }
 
 // Whether three rows of n pixels are among `size`, and each pixel has its mark.
 fn is_fitting(size: usize, marks: usize, at: usize, near: usize, far: usize, n: usize) -> bool
-    ensures { (result ≡ true → Fits marks at near far n size) × (result ≡ false → Fits marks at near far n size → ⊥) }
+    ensures { IsTrue result ↔ Fits marks at near far n size }
 {
-    if marks < n {
-        return false;
-    }
-    is_within(size, later(at, later(near, far)), n)
+    n <= marks && is_within(size, at.max(near).max(far), n)
 }
 
 fn is_parted(at: usize, near: usize, far: usize, n: usize) -> bool
-    ensures { (result ≡ true → Parted at near far n) × (result ≡ false → Parted at near far n → ⊥) }
+    ensures { IsTrue result ↔ Parted at near far n }
 {
     if at <= near {
-        return is_ahead(at, far, n);
+        is_ahead(at, far, n)
+    } else {
+        is_ahead(far, at, n)
     }
-    is_ahead(far, at, n)
 }
 
 // The same with a partner among those from `near` on, or from `far` on where it is marked; where the pass would change pixels from `far` on before it reads
@@ -186,15 +152,14 @@ pub fn meet_bent(
 )
     ensures { MeetsBent darker bends.now at near far n buf.old buf.new }
 {
-    if bends.len() < 1 {
+    if bends.is_empty() {
         meet(buf, at, near, n, darker);
-        return;
+    } else if is_fitting(buf.len(), bends.len(), at, near, far, n) && is_parted(at, near, far, n) {
+        let partner = Bent {
+            marks: bends,
+            near,
+            far,
+        };
+        run(buf, at, partner, n, at <= near, darker);
     }
-    if !is_fitting(buf.len(), bends.len(), at, near, far, n) {
-        return;
-    }
-    if !is_parted(at, near, far, n) {
-        return;
-    }
-    bent_row(buf, bends, at, near, far, n, at <= near, darker);
 }

@@ -1,11 +1,10 @@
 -- What the two openings ask for, and what they leave.
 --   can_open_is     what `can_open` has tested, as facts
 --   opens-all       all that an opening tests, as one
---   opens_kept      a test fails: nothing changes
 --   opens-done      all pass: every line is opened
 -- Assumes nothing.
-use mathlib.Core.Path.{◌≡◌, refl, sym, ◌∙◌}
-use mathlib.Core.Bool.{Bool, true, false, ◌&&◌, true≢false}
+use mathlib.Core.Path.{◌≡◌, sym, ◌∙◌}
+use mathlib.Core.Bool.{Bool, true, ◌&&◌, true≢false}
 use mathlib.Core.List.{List}
 use Prim.Native.Nat.{ℕ, ◌≤◌}
 use lib.Dec.{leb}
@@ -40,8 +39,5 @@ pub opens-all : {sh : Shape} {d : Direction} {way : Bool} → Accepted sh d → 
 opens-all {sh} a goes L n some room = rw (a.frame, a.direction, le-leb 1 L some, le-leb (needed sh) n room, goes)
 
 module _ {t : Bool} {s : Sweep} {L : ℕ} {g : List ℕ} where
-  pub opens_kept : t ≡ false → OpensIf t s L g g
-  opens_kept off = record { done = λ on. absurd (true≢false (sym on ∙ off)); none = λ e. refl }
-
   pub opens-done : {g' : List ℕ} → t ≡ true → OpensLines s L g g' → OpensIf t s L g g'
   opens-done on o = record { done = λ e. o; none = λ off. absurd (true≢false (sym on ∙ off)) }

@@ -1,28 +1,28 @@
 -- Which columns of a row bend: the rest of the division that rounds, carried from column to column.
 --   rest-start, rest_stay, rest-step  the rest at column 0, and one column on
 --   surplus_fits, surplus_small       what e columns make beyond whole rows
---   small_product                     a product of an accepted size
 --   bend_marked                       a column's mark, by its rest
 --   bends_more                        one mark more
---   bends_front                       the marks alone, at the front of a longer list
 --   bends_none                        no surplus: no column bends
---   marks_fit, marked_by, marks_enough    the marks of a pass have room, and are as many as it needs
+--   marks_if                          marks that are there only if a line bends
 -- Assumes nothing.
-use mathlib.Core.Path.{◌≡◌, sym, ap, ◌∙◌, subst}
-use mathlib.Core.Bool.{Bool, cond}
+use mathlib.Core.Path.{◌≡◌, refl, sym, ap, ◌∙◌, subst}
+use mathlib.Core.Bool.{Bool, true, false, cond}
 use mathlib.Core.List.{List, []}
-use mathlib.Core.Logic.{◌⊎◌, inl, inr, ⊎_elim}
+use mathlib.Core.Logic.{⊎_elim}
 use Prim.Native.Nat.{ℕ, ◌+◌, ◌-◌, ◌*◌, ◌/◌, ◌%◌, ◌≤◌, ◌<◌}
-use native.Mathlib.Nat.{eq-or-lt_of_le, add-mul, mul-add, mul_assoc, mul_comm, mul-le-mul, one-mul, div-add-mod', mod-lt, add-mul-div_right, div-eq_of_lt}
+use native.Mathlib.Nat.{eq-or-lt_of_le, add-mul, mul-add, mul_assoc, mul_comm, one-mul, div-add-mod', mod-lt, add-mul-div_right, div-eq_of_lt}
 use native.Mathlib.Omega.{arith}
 use lib.Dec.{eqb, ltb}
-use lib.ListN.{length, get_or, set, take}
-use lib.Seq.{get_or-set_same, get_or-set_other, get_or-take, length-take-le}
+use lib.ListN.{length, get_or, set}
+use lib.Seq.{get_or-set_same, get_or-set_other}
+use Rattle.std.specs.Bool.{then_some}
+use Rattle.std.specs.Borrow.{Bor}
 use borrow.Author.Tests.{lt-ltb, le-ltb}
 use Rattle.lists.proofs.Cases.{less_or_not}
 use Rattle.frame.specs.Lines as lines
 use Rattle.frame.specs.Lines.{r}
-use Rattle.rows.specs.Slants.{Bends, Rest, Marked}
+use Rattle.rows.specs.Slants.{Bends, Rest, marks_in}
 
 r-by : (a b i n rest : ℕ) → n * (2 * a) + rest ≡ 2 * i * b + a → rest < 2 * a → r a b i ≡ n
 unfolding lines.r
@@ -50,9 +50,6 @@ rest_stay {a} {b} {x} {rest} p h = rest-by (r a b x) (omega (arith, p.sum, furth
 pub rest-step : {a b x rest : ℕ} → Rest a b x rest → b ≤ a → 2 * a ≤ rest + 2 * b → Rest a b (x + 1) (rest + 2 * b - 2 * a)
 rest-step {a} {b} {x} {rest} p slow h =
     rest-by (r a b x + 1) (omega (arith, p.sum, further x 1 b, once (r a b x) (2 * a))) (omega (arith, p.below))
-
-pub small_product : (e b : ℕ) → e ≤ 4096 → b ≤ 255 → e * b ≤ 4096 * 255
-small_product e b h k = mul-le-mul {n₁ = e} {m₁ = b} {n₂ = 4096} {m₂ = 255} h k
 
 module _ (a b e d : ℕ) (some : 1 ≤ a) (rows : d ≡ e * b / a) where
   pub surplus_fits : d * a ≤ e * b
@@ -93,9 +90,6 @@ bends_more a b e d x v m f room here y h =
     (λ q. f y q ∙ ap (λ (k : ℕ). r a b y + cond (eqb k 0) d (d + 1)) (sym (get_or-set_other m x y v 0 (omega arith))))
     (eq-or-lt_of_le {n = y} {m = x} (omega arith))
 
-pub bends_front : (a b e d n : ℕ) (m : List ℕ) → Bends a b e d n m → Bends a b e d n (take n m)
-bends_front a b e d n m p x h = p x h ∙ ap (λ (v : ℕ). r a b x + cond (eqb v 0) d (d + 1)) (sym (get_or-take n m x 0 h))
-
 rest_at : (a b x : ℕ) → 1 ≤ a → Rest a b x ((2 * x * b + a) % (2 * a))
 rest_at a b x some = rest-by ((2 * x * b + a) / (2 * a)) (div-add-mod' (2 * x * b + a) (2 * a)) (mod-lt (2 * x * b + a) (omega arith))
 
@@ -105,14 +99,6 @@ bends_none a b e d n some rows nothing x h =
     bend_marked a b e d some rows p
     ∙ ap (λ (t : Bool). r a b x + cond (eqb (cond t 0 1) 0) d (d + 1)) (lt-ltb _ (2 * a) (omega (arith, p.below)))
 
--- k marks, none or one for each of n columns
-pub marks_fit : {k n m : ℕ} → (k ≡ 0) ⊎ (k ≡ n) → n ≤ m → k ≤ m
-marks_fit marks room = ⊎_elim (λ none. omega arith) (λ all. omega arith) marks
-
-pub marked_by : (n k : ℕ) (m : List ℕ) → (k ≡ 0) ⊎ (k ≡ n) → n ≤ length m → Marked n (take k m)
-marked_by n k m marks room =
-    let held = length-take-le k m (marks_fit marks room) in
-    ⊎_elim (λ none. inl (held ∙ none)) (λ all. inr (omega (arith, held, all))) marks
-
-pub marks_enough : {n : ℕ} (m : List ℕ) → Marked n m → 1 ≤ length m → n ≤ length m
-marks_enough m marked some = ⊎_elim (λ none. absurd (omega (arith, none, some))) (λ all. all) marked
+pub marks_if : (bent : Bool) (m : Bor (List ℕ)) → marks_in (then_some bent m) ≡ cond bent m.now []
+marks_if true m = refl
+marks_if false m = refl

@@ -24,7 +24,7 @@ use Rattle.rows.specs.Rows as rows
 use Rattle.rows.specs.Rows.{byte_of, lane_at, lane, rows_by, RowsAre, OpensLines}
 use Rattle.rows.proofs.Rowwise.{RowsApart, parted-rows, row_kept}
 use Rattle.rows.proofs.Lines.{line-length, line_at, rows-pixels, held, opening_is, opened-none}
-use Rattle.rows.specs.Down.{Down, pixel_of, extreme_of, WindowsMet}
+use Rattle.rows.specs.Down.{Down, pixel_of, descent, extreme_of, WindowsMet}
 use Rattle.rows.proofs.Blocks.{side_by_side}
 use Rattle.rows.proofs.Extremes.{extreme-darkest, extreme_brightest}
 
@@ -38,11 +38,11 @@ module _ (s : Sweep) (f : List ℕ) (u : ℕ) where
   pixel : (i : ℕ) → i < s.majors → pixel_of s f i u ≡ get_or (line_in s f u) i 0
   pixel i l = sym (line_at (shift s) (byte_of s) s.minors s.majors f u i l)
 
-  extreme-eroded : (w t : ℕ) → t + w < s.majors → extreme_of s true f u t w ≡ eroded_to (line_in s f u) (w + 1) t
+  extreme-eroded : (w t : ℕ) → t + w < s.majors → extreme_of (descent s true) f u t w ≡ eroded_to (line_in s f u) (w + 1) t
   unfolding rows.row_at
   extreme-eroded = extreme-darkest (line_in s f u) (λ (j : ℕ). pixel_of s f j u) s.majors long pixel
 
-  extreme-dilated : (w t : ℕ) → t + w < s.majors → extreme_of s false f u t w ≡ dilated_at (line_in s f u) (w + 1) (s.majors - 1 - t)
+  extreme-dilated : (w t : ℕ) → t + w < s.majors → extreme_of (descent s false) f u t w ≡ dilated_at (line_in s f u) (w + 1) (s.majors - 1 - t)
   unfolding rows.row_at
   extreme-dilated =
       extreme_brightest (line_in s f u) (λ (j : ℕ). pixel_of s f (s.majors - 1 - j) u) s.majors long (λ j l. pixel (s.majors - 1 - j) (omega arith))
@@ -57,7 +57,7 @@ clipped_in : (t L M : ℕ) → t < M → 1 ≤ L → t + (min (t + L) M - 1 - t)
 clipped_in t L M in' some = omega arith
 
 module _ (s : Sweep) (L : ℕ) (some : 1 ≤ L) where
-  eroded-rows : {b g g₁ : List ℕ} → RowsApart (rows_by s.pace) s.minors s.majors → WindowsMet s true L 0 s.majors b g
+  eroded-rows : {b g g₁ : List ℕ} → RowsApart (rows_by s.pace) s.minors s.majors → WindowsMet (descent s true) L 0 s.majors b g
       → RowsAre (rows_by s.pace) s.minors (s.majors + 1 - L) s.majors (λ (i k : ℕ). 0) g g₁ → L ≤ s.majors
       → RowsAre (rows_by s.pace) s.minors 0 s.majors (λ (i k : ℕ). eroded_to (line_in s b (k + shift s i)) L i) b g₁
   unfolding rows.row_at
@@ -78,7 +78,7 @@ module _ (s : Sweep) (L : ℕ) (some : 1 ≤ L) where
         other = λ x none. c.other x (λ i k l h n. none i k zero-le h n) ∙ e.other x (λ i k l h n. none i k l h n);
       }
 
-  dilated-rows : {b g : List ℕ} → WindowsMet s false L 0 s.majors b g
+  dilated-rows : {b g : List ℕ} → WindowsMet (descent s false) L 0 s.majors b g
       → RowsAre (rows_by s.pace) s.minors 0 s.majors (λ (i k : ℕ). dilated_at (line_in s b (k + shift s i)) L i) b g
   unfolding rows.row_at
   dilated-rows {b} {g} e =
@@ -92,7 +92,7 @@ module _ (s : Sweep) (L : ℕ) (some : 1 ≤ L) where
         other = λ x none. e.other x (λ t k l h n. none (s.majors - 1 - t) k zero-le (omega arith) n);
       }
     where
-      whole : (t u : ℕ) → t < s.majors → extreme_of s false b u t (min (t + L) s.majors - 1 - t) ≡ dilated_at (line_in s b u) L (s.majors - 1 - t)
+      whole : (t u : ℕ) → t < s.majors → extreme_of (descent s false) b u t (min (t + L) s.majors - 1 - t) ≡ dilated_at (line_in s b u) L (s.majors - 1 - t)
       whole t u in' =
           extreme-dilated s b u (min (t + L) s.majors - 1 - t) t (clipped_in t L s.majors in' some)
           ∙ ⊎_elim
@@ -126,8 +126,8 @@ module _ (s : Sweep) (L : ℕ) (some : 1 ≤ L) where
           (λ v j q dark. eroded-to-dark (line_in s f v) L j some dark) u i l)
           ∙ ap (table (eroded_to (line_in s f u) L)) (sym (long s f u))
 
-  pub windows_opened : {f g g₁ h : List ℕ} → Down s f → WindowsMet s true L 0 s.majors f g
-      → RowsAre (rows_by s.pace) s.minors (s.majors + 1 - L) s.majors (λ (i k : ℕ). 0) g g₁ → WindowsMet s false L 0 s.majors g₁ h → L ≤ s.majors
+  pub windows_opened : {f g g₁ h : List ℕ} → Down s f → WindowsMet (descent s true) L 0 s.majors f g
+      → RowsAre (rows_by s.pace) s.minors (s.majors + 1 - L) s.majors (λ (i k : ℕ). 0) g g₁ → WindowsMet (descent s false) L 0 s.majors g₁ h → L ≤ s.majors
       → OpensLines s L f h
   windows_opened to erosion clear dilation short =
       opened_rows (side_by_side s to.next) (eroded-rows (parted-rows s.pace s.minors s.majors to.apart) erosion clear short) (dilated-rows dilation)

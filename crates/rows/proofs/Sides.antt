@@ -1,12 +1,12 @@
 -- One row's part of a pass: its lines stand a aside here, and b aside in the other row.
 --   beside_in, beside-left, beside-right       the line's pixel there, or none
---   gone-right, gone-left                      no line of the row is in the frame there
+--   gone                                       no line of the row is in the frame there
 --   row-right, row-left, row-gone              a row, where the lines go on to the right, to the left, or out of the frame
 -- Assumes nothing.
 use mathlib.Core.Path.{◌≡◌, sym, ap, ap₂, ◌∙◌}
 use mathlib.Core.Bool.{Bool}
 use mathlib.Core.List.{List}
-use mathlib.Core.Logic.{⊎_elim}
+use mathlib.Core.Logic.{◌⊎◌, ⊎_elim}
 use Prim.Native.Nat.{ℕ, ◌+◌, ◌-◌, ◌≤◌, ◌<◌}
 use native.Mathlib.Omega.{arith}
 use lib.ListN.{length, get_or}
@@ -32,11 +32,9 @@ module _ (g : List ℕ) (from n a b : ℕ) where
   beside-right k lo out = rw (le-leb b (k + a) lo, le-ltb (k + a) (b + n) out)
 
 -- the line is out of the frame in the other row, at every pixel of this one
-pub gone-right : (g : List ℕ) (from n a b : ℕ) → b + n ≤ a → (k : ℕ) → k < n → beside g from n a b k ≡ 0
-gone-right g from n a b far k h = beside-right g from n a b k (omega arith) (omega arith)
-
-pub gone-left : (g : List ℕ) (from n a b : ℕ) → a + n ≤ b → (k : ℕ) → k < n → beside g from n a b k ≡ 0
-gone-left g from n a b far k h = beside-left g from n a b k (omega arith)
+pub gone : (g : List ℕ) (from n a b : ℕ) → (b + n ≤ a) ⊎ (a + n ≤ b) → (k : ℕ) → k < n → beside g from n a b k ≡ 0
+gone g from n a b far k h =
+    ⊎_elim (λ right. beside-right g from n a b k (omega arith) (omega arith)) (λ left. beside-left g from n a b k (omega arith)) far
 
 module _ {darker : Bool} {g g₁ : List ℕ} (at n other a b : ℕ) (here : at + n ≤ length g) where
   pub row-gone : ((k : ℕ) → k < n → beside g other n a b k ≡ 0) → Fades darker at n g g₁

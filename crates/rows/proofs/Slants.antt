@@ -1,6 +1,7 @@
 -- A pass over all rows, where lines go along them and bend from one to the next.
 --   Rows in the order in which the lines cross them:
 --   slant_room                a row is in the buffer
+--   ready-still               a buffer of the same length
 --   dark-past                 a frame that is dark from a column on: so are the rows that a pass has yet to treat
 --   Pixels and the row that their marks choose:
 --   far_untouched, own_untouched    a pass finds a row as it was that is not its own, and each of its pixels
@@ -31,9 +32,10 @@ use Rattle.frame.specs.Lines.{r}
 use Rattle.frame.specs.Sweep.{shift, Sane}
 use Rattle.frame.proofs.Rounding.{r-up}
 use Rattle.frame.proofs.Spans.{shift_falling, shift-rising}
+use Rattle.rows.specs.declared.slant.Pass.{Pass}
 use Rattle.rows.specs.Rows as rows
 use Rattle.rows.specs.Rows.{byte_of, lane_at, PixelsAre, RowsAre, row_at, rows_by}
-use Rattle.rows.specs.Slants.{Slanted, row_start, pixel_past, is_forth, rows_on, Bends, near_only, pixel_by, paired, partner, met_at, meeting, Dark, DarkPast}
+use Rattle.rows.specs.Slants.{Slanted, Ready, row_start, pixel_past, is_forth, rows_on, Bends, near_only, pixel_by, paired, partner, met_at, meeting, Dark, DarkPast}
 use Rattle.rows.proofs.Rowwise.{RowsApart, row_less, row-twice, row_kept, row_room, rows_more}
 use Rattle.rows.proofs.Lines.{lane_in, lane-left, lane-right, columns-pixels, pixels_as}
 use Rattle.rows.proofs.Growths.{bool_cases, paired_cases, paired-dark}
@@ -42,6 +44,17 @@ use Rattle.rows.proofs.Growths.{bool_cases, paired_cases, paired-dark}
 
 pub slant_room : {s : Sweep} {g : List ℕ} → Slanted s g → (forth : Bool) (t : ℕ) → t < s.minors → row_start s forth t + s.majors ≤ length g
 slant_room {s} {g} slanted forth t in' = row_room s.sidestep s.majors s.minors (length g) (row_at forth s.minors t) (row_less forth s.minors t in') slanted.room
+
+pub ready-still : {p : Pass} {b a : List ℕ} → Ready p b → length a ≡ length b → Ready p a
+ready-still ready same =
+    let slanted = ready.slanted in
+    record {
+      slanted = record { sane = slanted.sane; next = slanted.next; apart = slanted.apart; room = omega (arith, slanted.room, same) };
+      some = ready.some;
+      inside = ready.inside;
+      onward = ready.onward;
+      marked = ready.marked;
+    }
 
 module _ (forth : Bool) (N S : ℕ) (g : List ℕ) where
   past_in : (t j d : ℕ) → t + d < N → pixel_past forth N S g t j d ≡ get_or g (row_at forth N (t + d) * S + j) 0

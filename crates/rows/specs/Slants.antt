@@ -9,12 +9,15 @@
 --   Bends a b e d n m           the marks m say, for the n columns from 0 on, how many rows a line that rises b in a run of a goes aside in the next e columns: d or d + 1
 --   Rest a b x rest             what the rounding of r at x leaves over
 --   Surplus a b e d surplus     such a line goes d whole rows aside in e columns, and surplus / 2·a of a row more
---   Marked n m                  m has a mark for each of the n columns from 0 on, or there are none at all, as no line bends
+--   marks_in o                  these marks, or none
+--   Marked n o                  o has a mark for each of the n columns from 0 on, or there are none at all, as no line bends
 --   near_only m near g j        pixel j of the row at `near`; 0 where it is marked
 --   pixel_by s forth m t there d g j            by the marks, the pixel in column there + j, d or d + 1 rows past row t
 --   paired s here there x                       the pixel in column x has a partner: x is at least `here`, and the partner's column is in the frame
 --   partner s forth m here there d g t x        the pixel that the one in column x of row t meets: 0 where there is none
 --   met_at darker s forth m here there d g t x  what it becomes
+--   forth_of, start_of, marks_of, partner_of, becomes    the same of a pass p: how it counts the rows, where row t starts, its marks, what a pixel meets and becomes
+--   Ready p g                   the pass p may go over the frame that stands in g
 --   meeting darker s here there g i k           the same of pixel k at the major coordinate i, by its line
 --   Dark s light g              every pixel from the major coordinate `light` on is 0
 --   DarkPast s forth t light g  the same in row t and in those past it
@@ -23,13 +26,15 @@
 --   GrownLines darker s L w f   each line of the sweep s holds what this makes of that line of the frame f
 --   Grows darker s L w          from windows of one pixel to those of w, whatever the frame was
 -- Laws: rows/proofs/Growths, Bends, Slants.
-use Rattle.std.specs.Prelude.{◌≡◌, Bool, not, cond, ◌&&◌, List, ◌⊎◌, ℕ, ◌+◌, ◌-◌, ◌*◌, ◌/◌, ◌≤◌, ◌<◌, eqb, leb, ltb, length, get_or}
+use Rattle.std.specs.Prelude.{◌≡◌, Bool, true, not, cond, ◌&&◌, List, [], Option, Some, None, ℕ, ◌+◌, ◌-◌, ◌*◌, ◌/◌, ◌≤◌, ◌<◌, eqb, leb, ltb, length, get_or}
 use Rattle.std.specs.Bool.{beq}
+use Rattle.std.specs.Borrow.{Bor}
 use Rattle.frame.specs.declared.sweep.Sweep.{Sweep}
 use Rattle.frame.specs.Lines.{r}
 use Rattle.frame.specs.Sweep.{shift, Sane}
 use Rattle.line.specs.Passes.{eroded_to, reopened}
 use Rattle.passes.specs.Passes.{op}
+use Rattle.rows.specs.declared.slant.Pass.{Pass}
 use Rattle.rows.specs.Rows.{byte_of, lane_at, lane, PixelsAre, row_at}
 
 pub record Slanted (s : Sweep) (g : List ℕ) : Type 0 where
@@ -62,8 +67,13 @@ pub record Rest (a b x rest : ℕ) : Type 0 where
 abbrev pub Surplus : ℕ → ℕ → ℕ → ℕ → ℕ → Type 0
 Surplus a b e d surplus = (d ≡ e * b / a) × (surplus ≡ 2 * (e * b - d * a))
 
-abbrev pub Marked : ℕ → List ℕ → Type 0
-Marked n m = (length m ≡ 0) ⊎ (n ≤ length m)
+abbrev pub marks_in : Option (Bor (List ℕ)) → List ℕ
+marks_in None = []
+marks_in (Some m) = m.now
+
+abbrev pub Marked : ℕ → Option (Bor (List ℕ)) → Type 0
+Marked n None = Unit {0}
+Marked n (Some m) = n ≤ length m.now
 
 -- ---- a pass over a row
 
@@ -84,6 +94,28 @@ met_at darker s forth m here there d g t x = op darker (get_or g (row_start s fo
 
 abbrev pub DarkPast : Sweep → Bool → ℕ → ℕ → List ℕ → Type 0
 DarkPast s forth t light g = (u x : ℕ) → t ≤ u → u < s.minors → light ≤ x → x < s.majors → get_or g (row_start s forth u + x) 0 ≡ 0
+
+abbrev pub forth_of : Pass → Bool
+forth_of p = is_forth p.darker p.sweep.falling
+
+abbrev pub start_of : Pass → ℕ → ℕ
+start_of p = row_start p.sweep (forth_of p)
+
+abbrev pub marks_of : Pass → List ℕ
+marks_of p = marks_in p.bends
+
+abbrev pub partner_of : Pass → ℕ → List ℕ → ℕ → ℕ
+partner_of p t = pixel_by p.sweep (forth_of p) (marks_of p) t p.there p.step
+
+abbrev pub becomes : Pass → List ℕ → ℕ → ℕ → ℕ
+becomes p = met_at p.darker p.sweep (forth_of p) (marks_of p) p.here p.there p.step
+
+pub record Ready (p : Pass) (g : List ℕ) : Type 0 where
+  pub slanted : Slanted p.sweep g
+  pub some : p.there < p.light
+  pub inside : p.here + p.light ≤ p.sweep.majors
+  pub onward : p.darker ≡ true → p.here ≡ 0
+  pub marked : Marked (p.light - p.there) p.bends
 
 -- ---- a pass over the lines
 

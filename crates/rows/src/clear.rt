@@ -9,9 +9,7 @@ pub(crate) fn clear_rows(buf: &mut [Pixel], stride: usize, n: usize, from: usize
     requires { (n ≤ stride) × (from ≤ to) × ((to - 1) * stride + n ≤ length buf.old) }
     ensures { RowsAre (rows_by stride) n from to (λ (i k : ℕ). 0) buf.old buf.new }
 {
-    let mut i = from;
-    while i < to {
+    for i in from..to {
         passes::blacken(buf, i * stride, n);
-        i += 1;
     }
 }

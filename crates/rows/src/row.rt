@@ -20,21 +20,14 @@ pub(crate) fn meet_row(
     requires { (at + n ≤ length buf.old) × (other + n ≤ length buf.old) }
     ensures { Filled buf.old buf.new at (at + n) (λ (x : ℕ). op darker (get_or buf.old x 0) (beside buf.old other n a b (x - at))) }
 {
-    if b <= a {
-        let aside = a - b;
-        if n <= aside {
-            passes::fade(buf, at, n, darker);
-            return;
-        }
-        passes::meet(buf, at, other + aside, n - aside, darker);
-        passes::fade(buf, at + (n - aside), aside, darker);
-        return;
-    }
-    let aside = b - a;
+    let aside = a.abs_diff(b);
     if n <= aside {
         passes::fade(buf, at, n, darker);
-        return;
+    } else if b <= a {
+        passes::meet(buf, at, other + aside, n - aside, darker);
+        passes::fade(buf, at + (n - aside), aside, darker);
+    } else {
+        passes::meet(buf, at + aside, other, n - aside, darker);
+        passes::fade(buf, at, aside, darker);
     }
-    passes::meet(buf, at + aside, other, n - aside, darker);
-    passes::fade(buf, at, aside, darker);
 }

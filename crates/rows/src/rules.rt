@@ -8,14 +8,5 @@ use frame::{Direction, Shape};
 pub(crate) fn can_open(shape: Shape, d: Direction, length: usize, n: usize) -> bool
     ensures { result ≡ can_open shape d length n }
 {
-    if !shape.is_frame() {
-        return false;
-    }
-    if !d.is_direction() {
-        return false;
-    }
-    if length < 1 {
-        return false;
-    }
-    shape.bytes() <= n
+    shape.is_frame() && d.is_direction() && 1 <= length && shape.bytes() <= n
 }

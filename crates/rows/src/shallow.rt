@@ -1,6 +1,6 @@
-// The opening of a frame in a shallow direction, in place: the windows' length doubles from one pass to the next, and the marks are made anew for each pass.
-ghost use Rattle.std.specs.Prelude.{◌≡◌, cond, ◌+◌, ◌-◌, ◌≤◌};
-ghost use lib.ListN;
+// The opening of a frame in a shallow direction, in place: the windows' length doubles from one pass to the next, and the marks are made anew for each pass. The buffer is
+// lent to each step beside its sweep, for the reason that order.rt has.
+ghost use Rattle.std.specs.Prelude.{◌≡◌, cond, ◌+◌, ◌-◌, ◌≤◌, ◌<◌};
 ghost use Rattle.rows.specs.Rows.{byte_of, PixelsAre, OpensLines, OpensShallow};
 ghost use Rattle.rows.specs.Slants.{Slanted, Dark, edge, meeting, Grows};
 
@@ -8,7 +8,7 @@ use crate::Pixel;
 use crate::clear::clear_rows;
 use crate::marks::mark_bends;
 use crate::rules::can_open;
-use crate::slant::slants;
+use crate::slant::Pass;
 use answer::LONGEST;
 use frame::{Direction, Shape, Sweep};
 
@@ -18,20 +18,20 @@ fn whole_blocks(n: usize, most: usize) -> usize
     requires { (n ≤ most) × (most ≤ 4096) }
     ensures { (n ≤ result) × (result ≤ most) }
 {
-    let end = (n + 63) / 64 * 64;
-    if end < most { end } else { most }
+    most.min(n.next_multiple_of(64))
 }
 
 // The column from which on a pass takes all to be dark. After an erosion by windows of w columns: behind the last column where one begins. In the dilation:
 // behind those that windows of w columns reach from the last column where one of `length` begins, or further on, up to a whole block.
 fn first_dark(majors: usize, length: usize, w: usize, e: usize, darker: bool) -> usize
     requires { (1 ≤ w) × (w + e ≤ length) × (length ≤ majors) × (majors ≤ 4096) }
-    ensures { (edge darker majors length w ≤ result) × (cond darker e 0 ≤ result) × (cond darker 0 e + result ≤ majors) }
+    ensures { (edge darker majors length w ≤ result) × (cond darker e 0 < result) × (cond darker 0 e + result ≤ majors) }
 {
     if darker {
-        return majors + 1 - w;
+        majors + 1 - w
+    } else {
+        whole_blocks(majors - length + w + e, majors) - e
     }
-    whole_blocks(majors - length + w + e, majors) - e
 }
 
 // The first column of the pixels that meet others e columns on, or e columns before. The others' first column is what is left of e.
@@ -45,40 +45,40 @@ fn first_met(e: usize, darker: bool) -> usize
 // rows are counted from the first on in an erosion where lines rise, and in a dilation where they fall.
 fn grow(
     buf: &mut [Pixel],
-    bends: &mut [u8],
+    bends: &mut [u8; LONGEST],
     s: Sweep,
     length: usize,
     w: usize,
     e: usize,
     darker: bool,
 )
-    requires { Slanted s buf.old × (1 ≤ w) × (w + e ≤ length) × (length ≤ s.majors) × (s.majors ≤ lib.ListN.length bends.old) × Dark s (edge darker s.majors length w) buf.old }
+    requires { Slanted s buf.old × (1 ≤ w) × (w + e ≤ length) × (length ≤ s.majors) × Dark s (edge darker s.majors length w) buf.old }
     ensures { PixelsAre (byte_of s) s.majors s.minors (meeting darker s (cond darker 0 e) (cond darker e 0) buf.old) buf.old buf.new }
 {
     let step = e * s.rise / s.run;
     let light = first_dark(s.majors, length, w, e, darker);
     let here = first_met(e, darker);
     let there = e - here;
-    let forth = s.falling != darker;
-    let marks = mark_bends(bends, light - there, s.run, s.rise, e, step);
-    slants(
-        buf,
-        &bends[..marks],
-        s,
-        forth,
+    let marks = &mut bends[..light - there];
+    let bent = mark_bends(marks, s.run, s.rise, e, step);
+    let pass = Pass {
+        sweep: s,
+        darker,
         light,
         here,
         there,
         step,
-        darker,
-    );
+        bends: bent.then_some(&*marks),
+    };
+    pass.run(buf);
 }
 
 // The erosion by windows of `length` columns, or from such an erosion to the opening.
-fn grow_along(buf: &mut [Pixel], bends: &mut [u8], s: Sweep, length: usize, darker: bool)
-    requires { Slanted s buf.old × (1 ≤ length) × (length ≤ s.majors) × (s.majors ≤ lib.ListN.length bends.old) × Dark s (edge darker s.majors length 1) buf.old }
+fn grow_along(buf: &mut [Pixel], bends: &mut [u8; LONGEST], s: Sweep, length: usize, darker: bool)
+    requires { Slanted s buf.old × (1 ≤ length) × (length ≤ s.majors) × Dark s (edge darker s.majors length 1) buf.old }
     ensures { Grows darker s length length buf.old buf.new × Dark s (edge darker s.majors length length) buf.new }
 {
+    // A `while`, since the step varies: it doubles, as long as it can.
     let mut w = 1;
     while w < length {
         let e = line::growth(w, length);
@@ -105,11 +105,7 @@ fn open_along(buf: &mut [Pixel], s: Sweep, length: usize)
 pub fn open_shallow(buf: &mut [Pixel], shape: Shape, d: Direction, length: usize)
     ensures { OpensShallow shape d length buf.old buf.new }
 {
-    if !can_open(shape, d, length, buf.len()) {
-        return;
+    if can_open(shape, d, length, buf.len()) && d.is_shallow() {
+        open_along(buf, frame::sweep_of(shape, d), length);
     }
-    if !d.is_shallow() {
-        return;
-    }
-    open_along(buf, frame::sweep_of(shape, d), length);
 }

@@ -13,9 +13,11 @@ use mathlib.Core.Path.{◌≡◌, sym, ap, ap₂, ◌∙◌}
 use mathlib.Core.List.{List, [], ◌∷◌, ◌++◌, append-nil, append_assoc}
 use mathlib.Core.Logic.{⊎_elim}
 use Prim.Native.Nat.{ℕ, zero, suc, ◌+◌, ◌-◌, ◌≤◌, ◌<◌}
+use native.Mathlib.Numerals.{add-one}
 use native.Mathlib.Omega.{arith}
-use lib.ListN.{length, get_or, length-append, get_or-append}
+use lib.ListN.{length, get_or, replicate, length-append, get_or-append}
 use lib.Seq.{get_or-append-add}
+use Rattle.std.proofs.lemmas.List.{replicate_more}
 use Rattle.lists.specs.Tables.{each, table}
 use Rattle.lists.specs.Extremes.{total}
 use Rattle.lists.proofs.Cases.{less_or_not}
@@ -27,7 +29,6 @@ use Rattle.line.proofs.Passes.{opened-at-short}
 use Rattle.bridge.specs.Sums.{sum_for, bin_for}
 use Rattle.bridge.proofs.Sizes.{sums-whole}
 use Rattle.sizes.specs.Sums.{sums_of, line_sums}
-use Rattle.sizes.specs.Steps.{zeros}
 
 module _ (sum : ℕ → ℕ) where
   abbrev bin : ℕ → ℕ
@@ -54,7 +55,7 @@ module _ (sum : ℕ → ℕ) where
   unfolding each
   sums_next K e = let own : sum (suc K) - 0 ≡ sum (suc K) = omega arith in rw (e, own)
 
-  pub sums-behind : (K m : ℕ) → ((L : ℕ) → suc K < L → L ≤ suc (K + m) → sum L ≡ 0) → sums_of sum (K + m) ≡ sums_of sum K ++ zeros m
+  pub sums-behind : (K m : ℕ) → ((L : ℕ) → suc K < L → L ≤ suc (K + m) → sum L ≡ 0) → sums_of sum (K + m) ≡ sums_of sum K ++ replicate m 0
   unfolding each
   sums-behind K zero none = let e : K + 0 ≡ K = omega arith in rw e (sym (append-nil (sums_of sum K)))
   sums-behind K (suc m) none =
@@ -62,7 +63,8 @@ module _ (sum : ℕ → ℕ) where
       rw e
       (sums_next (K + m) (none (suc (suc (K + m))) (omega arith) (omega arith))
       ∙ ap (λ (l : List ℕ). l ++ (0 ∷ [])) (sums-behind K m (λ L lo hi. none L lo (omega arith)))
-      ∙ append_assoc (sums_of sum K) (zeros m) (0 ∷ []))
+      ∙ append_assoc (sums_of sum K) (replicate m 0) (0 ∷ [])
+      ∙ ap (λ (l : List ℕ). sums_of sum K ++ l) (replicate_more m 0 ∙ ap (λ (n : ℕ). replicate n 0) (add-one m)))
 
   bins-total : ((i : ℕ) → sum (suc (suc i)) ≤ sum (suc i)) → (K : ℕ) → total (table bin K) + sum (suc K) ≡ sum 1
   unfolding each total

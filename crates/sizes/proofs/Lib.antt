@@ -5,7 +5,7 @@
 --   Gathered     a frame's sums from those of its lines; together they are the total of its pixels
 --   Rows         the rose, row by row; no sum is the largest number of 64 bits
 --   Calls        what the calls know once they are not refused, and what they leave
---   Summaries    parts of totals, and the summary case by case
+--   Summaries    totals by weights, and the summary case by case
 --   Examples     sums and summary of document 01's example; sums of a slanted frame
 pub mod Bins
 pub mod Spreads

@@ -2,14 +2,14 @@
 --   sound-stretches                             each listed stretch has pixels, and its level is not below its base
 --   entry-light                                 the light of the stretches of an entry is that bin, or the rest
 --   Adding                                      where the adding of a line stands; adding_start, -sound, -more, -end
---   entry-most, adding_modest, light-most       no entry grows too large meanwhile
+--   entry-most, adding_modest                   no entry grows too large meanwhile
 -- Assumes nothing.
 use mathlib.Core.Path.{◌≡◌, refl, sym, ap, ◌∙◌}
 use mathlib.Core.Bool.{Bool, true, false, cond}
 use mathlib.Core.List.{List, [], ◌∷◌}
 use mathlib.Core.Logic.{⊎_elim}
 use Prim.Native.Nat.{ℕ, zero, suc, ◌+◌, ◌-◌, ◌*◌, ◌≤◌, ◌<◌, ◌^◌, zero-le}
-use native.Mathlib.Nat.{zero-mul, mul-le-mul_right}
+use native.Mathlib.Nat.{zero-mul}
 use native.Mathlib.Omega.{arith}
 use lib.Dec.{ltb, eqb}
 use lib.ListN.{length, get_or, set, length-set, drop_of_length-le, get_or-eq_default}
@@ -166,7 +166,3 @@ adding_modest f s₀ rest s h dim modest g j = ⊎_elim inside beyond (less_or_n
     beyond l =
         let m : length s ≤ j = omega (arith, g.same) in
         rw (get_or-eq_default s 0 m) zero-le
-
--- a length by a rise of 16 bits
-pub light-most : (l x : ℕ) → l ≤ longest → x < 2 ^ 16 → l * x ≤ 2 ^ 28
-light-most l x h k = omega (arith, mul-le-mul_right x h)

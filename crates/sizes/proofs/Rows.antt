@@ -1,11 +1,11 @@
 -- The rose, row by row.
---   rose_fits          a frame and its scratch, once `rose` is not refused
---   row-set            the sums of a numbered direction are not refused then
+--   rose_framed        the frame, once `rose` is not refused
 --   Filling            where the filling of the rows stands; filling_start, -more, -end
 --   rose_refused, rose_done    the ways out of `rose`
 --   sum_never_largest  no sum of a frame is the largest number of 64 bits
 -- Assumes nothing.
 use mathlib.Core.Path.{◌≡◌, refl, sym, ap, ◌∙◌}
+use mathlib.Core.Bool.{true, false, true≢false}
 use mathlib.Core.List.{List, []}
 use Prim.Native.Nat.{ℕ, ◌+◌, ◌-◌, ◌*◌, ◌^◌, ◌≤◌, ◌<◌}
 use native.Mathlib.Nat.{not-suc-le-zero, ne_of_lt, mul-le-mul}
@@ -13,51 +13,35 @@ use native.Mathlib.Omega.{arith}
 use lib.ListN.{length, get_or, set, length-set}
 use lib.Seq.{get_or-set_same, get_or-set_other}
 use borrow.Author.Count.{below_more}
-use borrow.Author.Tests.{ltb-false, le-ltb, not-false}
+use borrow.Author.Tests.{not-false}
 use Rattle.lists.specs.Tables.{table}
 use Rattle.lists.specs.Extremes.{total}
 use Rattle.lists.proofs.Tables.{table-by}
+use Rattle.std.specs.Prelude.{Result, Ok, Err}
+use Rattle.std.specs.Result.{is_err}
 use Rattle.answer.specs.declared.Answer.{Answer}
+use Rattle.answer.specs.declared.Refusal.{Refusal}
+use Rattle.answer.specs.Refusals.{settled}
+use Rattle.answer.proofs.Refusals.{refused_number}
 use Rattle.lists.proofs.Totals.{entry-total, table-most}
 use Rattle.answer.specs.Limits.{longest}
-use Rattle.answer.specs.Rules.{answer, done}
+use Rattle.answer.specs.Rules.{answer}
 use Rattle.answer.proofs.Rules.{kept, after-done, after-refused}
 use Rattle.frame.specs.declared.direction.Direction.{Direction}
 use Rattle.frame.specs.declared.shape.Shape.{Shape}
 use Rattle.frame.specs.Direction.{numbered_of}
-use Rattle.frame.specs.Shape.{is_frame, needed, scratch_for}
+use Rattle.frame.specs.Shape.{is_frame}
 use Rattle.frame.specs.Lines.{at, place}
 use Rattle.frame.specs.Sweep.{Accepted}
-use Rattle.frame.proofs.Directions.{numbered-accepted}
 use Rattle.frame.proofs.Shapes.{framed}
 use Rattle.sizes.specs.Sums.{frame_sums}
-use Rattle.sizes.specs.Frame.{SumsFrame}
 use Rattle.sizes.specs.Rose.{rose_bins, rose_rules, refused_rose, rose_of, Roses}
-use Rattle.sizes.specs.Steps.{Roomy, SetsRow}
 use Rattle.sizes.proofs.Gathered.{frame-total}
 
-pub rose_fits : (sh : Shape) (size spare : ℕ) {a : Answer} → a ≡ answer (rose_rules sh size spare) 0 → a.number ≡ 0 → Roomy sh size spare
-rose_fits sh size spare e z =
-    let k = kept (rose_rules sh size spare) 0 refl (rw e at z) in
-    record { frame = not-false (is_frame sh) k.0; source = ltb-false size (needed sh) k.1.0; room = ltb-false spare (scratch_for sh) k.1.1.0 }
+pub rose_framed : (sh : Shape) (size spare : ℕ) → (answer (rose_rules sh size spare) 0).number ≡ 0 → is_frame sh ≡ true
+rose_framed sh size spare z = not-false (is_frame sh) (kept (rose_rules sh size spare) 0 refl z).0
 
 module _ (f : List ℕ) (sh : Shape) where
-  pub row-set : (d : ℕ) (row row' scratch scratch' : List ℕ) (a : Answer) → Roomy sh (length f) (length scratch) → d < 16 → length row ≡ 33
-      → SumsFrame f sh (numbered_of d) row row' scratch scratch' a → SetsRow f sh d row' scratch scratch'
-  row-set d row row' scratch scratch' a ok h n s =
-      record { set = (rw n at (s.written ∙ after-done a _ _ (ap (λ (a : Answer). a.number) says))); kept = s.scratch_length }
-    where
-      says : a ≡ done 0
-      says =
-          s.answers
-          ∙ rw (
-            n,
-            ok.frame,
-            numbered-accepted d h,
-            le-ltb (length f) (needed sh) ok.source,
-            le-ltb (length scratch) (scratch_for sh) ok.room,
-          )
-
   -- the rows below d are filled
   pub record Filling (d : ℕ) (rows : List (List ℕ)) : Type 0 where
     pub same : length rows ≡ 16
@@ -83,31 +67,35 @@ module _ (f : List ℕ) (sh : Shape) where
 
 -- ---- the ways out of `rose`
 
-module _ (f scratch : List ℕ) (sh : Shape) {a : Answer} (e : a ≡ answer (rose_rules sh (length f) (length scratch)) 0) where
+module _ (f scratch : List ℕ) (sh : Shape) (r : Result (Unit {0}) Refusal) (e : settled r ≡ answer (rose_rules sh (length f) (length scratch)) 0) where
   abbrev says : Answer
   says = answer (rose_rules sh (length f) (length scratch)) 0
 
-  number : a.number ≡ says.number
-  number = ap (λ (a : Answer). a.number) e
-
-  pub rose_refused : (a.number ≡ 0 → ⊥) → Roses f sh scratch scratch refused_rose
-  rose_refused n =
-      let refused : says.number ≡ 0 → ⊥ = λ z. n (number ∙ z) in
+  pub rose_refused : is_err r ≡ true → Roses f sh scratch scratch refused_rose
+  rose_refused err =
       record {
-        rows = sym (after-refused says (rose_of f sh) refused_rose refused);
+        rows = sym (after-refused says (rose_of f sh) refused_rose (λ z. numbered r err (ap (λ (a : Answer). a.number) e ∙ z)));
         scratch_kept = λ _. refl;
         scratch_length = refl;
       }
+    where
+      numbered : (r : Result (Unit {0}) Refusal) → is_err r ≡ true → (settled r).number ≡ 0 → ⊥
+      numbered (Ok u) err z = true≢false (sym err)
+      numbered (Err e) err z = refused_number e z
 
-  pub rose_done : a.number ≡ 0 → (rows : List (List ℕ)) (scratch' : List ℕ) → rows ≡ rose_of f sh → length scratch' ≡ length scratch
+  pub rose_done : is_err r ≡ false → (rows : List (List ℕ)) (scratch' : List ℕ) → rows ≡ rose_of f sh → length scratch' ≡ length scratch
       → Roses f sh scratch scratch' rows
-  rose_done z rows scratch' is kept =
-      let done : says.number ≡ 0 = sym number ∙ z in
+  rose_done ok rows scratch' is kept =
+      let done : says.number ≡ 0 = sym (ap (λ (a : Answer). a.number) e) ∙ numbered r ok in
       record {
         rows = is ∙ sym (after-done says (rose_of f sh) refused_rose done);
         scratch_kept = λ refused. absurd (refused done);
         scratch_length = kept;
       }
+    where
+      numbered : (r : Result (Unit {0}) Refusal) → is_err r ≡ false → (settled r).number ≡ 0
+      numbered (Ok u) ok = refl
+      numbered (Err e) ok = absurd (true≢false ok)
 
 -- 'which no sum reaches'
 pub sum_never_largest : (f : List ℕ) (sh : Shape) (d : Direction) (K j : ℕ) → Accepted sh d → ((i : ℕ) → get_or f i 0 ≤ 255)

@@ -5,9 +5,9 @@
 -- With the counts of a direction's lengths:
 --   sums-straight                  where lines are rows or columns, bins and rest by pixels are those by length
 --   counts-measured                each is 1 at least, and at most its length
---   last-count, counts-fit         the last is that of the last length, and not above how many they are
+--   last-count, counts-fit         the last is that of the last length: 1 at least, and not above how many they are
 --   spread_front                   bins and rest by pixels at the front of a slice, spread, are those by length
---   counts-room, counts-part       the counts at the front of an array, as a part of it
+--   counts-part                    the counts, where they stand at the front of an array
 -- Assumes nothing.
 use mathlib.Core.Path.{◌≡◌, sym, ap, ◌∙◌}
 use mathlib.Core.Bool.{true}
@@ -17,7 +17,7 @@ use Prim.Native.Nat.{ℕ, zero, suc, ◌+◌, ◌-◌, ◌≤◌, ◌<◌}
 use native.Mathlib.Nat.{le_refl}
 use native.Mathlib.Omega.{arith}
 use lib.ListN.{length, get_or, take, drop, length-append, length-drop, get_or-append, get_or-eq_default}
-use lib.Seq.{length-take-le, take_at, ext_get_or}
+use lib.Seq.{length-take-le, ext_get_or}
 use borrow.Author.Tests.{eq-eqb, ne_eqb}
 use Rattle.lists.specs.Tables.{table}
 use Rattle.lists.proofs.Cases.{less_or_not}
@@ -127,14 +127,13 @@ module _ (d : Direction) (n : ℕ) (c : List ℕ) (counts : c ≡ counts_to d n)
         let e : suc (n - 1) ≡ n = omega arith in
         rw counts-length (count_at (pixels_for d) n c counts (n - 1) (omega arith) ∙ ap (pixels_for d) e)
 
-    pub counts-fit : (length c ≡ n) × (1 ≤ get_or c (length c - 1) 0) × (get_or c (length c - 1) 0 ≤ n)
-    counts-fit = (counts-length, omega (arith, last-count, pixels-some d n), omega (arith, last-count, pixels-most d n some))
-
 -- ---- bins and rest by pixels at the front of the slice s, as many as the last length has pixels
 
-module _ (d : Direction) (s c : List ℕ) (counts : c ≡ counts_to d (length s)) (some : 1 ≤ length s) where
-  abbrev most : ℕ
-  most = get_or c (length c - 1) 0
+module _ (d : Direction) (s c : List ℕ) (most : ℕ) (counts : c ≡ counts_to d (length s)) (some : 1 ≤ length s) (is : most ≡ get_or c (length c - 1) 0) where
+  pub counts-fit : (1 ≤ most) × (most ≤ length s)
+  counts-fit =
+      let last = last-count d (length s) c counts some in
+      (omega (arith, is, last, pixels-some d (length s)), omega (arith, is, last, pixels-most d (length s) some))
 
   pub spread_front : (S : ℕ → ℕ) (p : List ℕ) → p ≡ sums_of S (length (take most s) - 1)
       → table (spread_to c (p ++ drop most s)) (length (p ++ drop most s)) ≡ sums_of (λ (L : ℕ). S (pixels_for d L)) (length s - 1)
@@ -144,36 +143,25 @@ module _ (d : Direction) (s c : List ℕ) (counts : c ≡ counts_to d (length s)
       ∙ spread_sums S (pixels_for d) (pixels-some d) (pixels-next d) (length s - 1) c (p ++ drop most s) (counts ∙ ap (counts_to d) entries)
       (λ j h. get_or-append p (drop most s) 0 j (omega (arith, h, last, filled)) ∙ (rw (set, part, last))))
     where
-      fit : (length c ≡ length s) × (1 ≤ most) × (most ≤ length s)
-      fit = counts-fit d (length s) c counts some
-
       part : length (take most s) ≡ most
-      part = length-take-le most s fit.2
+      part = length-take-le most s counts-fit.1
 
       filled : length p ≡ most
-      filled = rw set (omega (arith, sums-length S (length (take most s) - 1), part, fit.1))
+      filled = rw set (omega (arith, sums-length S (length (take most s) - 1), part, counts-fit.0))
 
       kept : length (p ++ drop most s) ≡ length s
-      kept = omega (arith, length-append p (drop most s), length-drop most s, filled, fit.2)
+      kept = omega (arith, length-append p (drop most s), length-drop most s, filled, counts-fit.1)
 
       entries : length s ≡ suc (length s - 1)
       entries = omega (arith, some)
 
       last : pixels_for d (suc (length s - 1)) ≡ most
-      last = ap (pixels_for d) (sym entries) ∙ sym (last-count d (length s) c counts some)
+      last = ap (pixels_for d) (sym entries) ∙ sym (is ∙ last-count d (length s) c counts some)
 
 -- ---- the counts at the front of an array
 
-module _ (d : Direction) (n : ℕ) (array counts : List ℕ) (direction : is_direction d ≡ true) (some : 1 ≤ n) (few : n ≤ longest + 1) (room : n ≤ length array)
-    (counted : counts ≡ counts_of d (take n array)) where
-  part : length (take n array) ≡ n
-  part = length-take-le n array room
-
-  is : counts ≡ counts_to d n
-  is = counted ∙ counts_known d (take n array) direction (omega (arith, part)) (omega (arith, part)) ∙ ap (counts_to d) part
-
-  pub counts-room : n ≤ length (counts ++ drop n array)
-  counts-room = omega (arith, length-append counts (drop n array), counts-length d n counts is)
-
-  pub counts-part : take n (counts ++ drop n array) ≡ counts_to d n
-  counts-part = take_at counts (drop n array) n (counts-length d n counts is) ∙ is
+pub counts-part : (d : Direction) (n : ℕ) (array counts : List ℕ) → is_direction d ≡ true → 1 ≤ n → n ≤ longest + 1 → n ≤ length array
+    → counts ≡ counts_of d (take n array) → counts ≡ counts_to d n
+counts-part d n array counts direction some few room counted =
+    let part = length-take-le n array room in
+    counted ∙ counts_known d (take n array) direction (omega (arith, part)) (omega (arith, part)) ∙ ap (counts_to d) part

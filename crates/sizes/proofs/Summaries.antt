@@ -1,16 +1,15 @@
--- Parts of totals, and the summary case by case.
---   total-next, total-part          one entry more of a total; a longer part's is no less
---   weighted-next, weighted-part    the same of a total by lengths
---   over_by, within_by              a test by division, as a product
+-- Totals by weights, and the summary case by case.
+--   weighed-more, weighed-part      one entry more of a total by weights; a part's is no more
+--   weighed-one, weighed-lengths    such a total with the weight 1, and with the lengths
 --   exact, float_back               a whole number that is cast to a float and loses nothing: it comes back unchanged
 --   quotient_rounded                a quotient is the fraction of the two whole numbers, rounded once
 --   summary_outside, -dark, -large, -heavy, -done    the ways out of `summarize`
 -- Assumes nothing.
-use mathlib.Core.Path.{◌≡◌, sym, ap, ◌∙◌}
+use mathlib.Core.Path.{◌≡◌, refl, sym, ap, ap₂, ◌∙◌}
 use mathlib.Core.Bool.{true, false, or-true}
 use mathlib.Core.List.{List, [], ◌∷◌}
-use Prim.Native.Nat.{ℕ, zero, suc, ◌+◌, ◌*◌, ◌/◌, ◌≤◌, ◌<◌, zero-le}
-use native.Mathlib.Nat.{not-suc-le-zero, le_of_suc-le-suc, add-suc, add-zero, suc-add, zero-mul, add_comm, mul_comm, mul_assoc, mul-one, mul-pos, div-lt_iff_lt-mul, le-div_iff_mul-le}
+use Prim.Native.Nat.{ℕ, zero, suc, ◌+◌, ◌*◌, ◌≤◌, ◌<◌, zero-le}
+use native.Mathlib.Nat.{not-suc-le-zero, le_of_suc-le-suc, add-zero, zero-mul, add_comm, mul_comm, mul_assoc, mul-one, mul-pos}
 use native.Mathlib.Numerals.{add-one}
 use native.Mathlib.Omega.{arith}
 use lib.Dec.{T, le→leb}
@@ -25,46 +24,47 @@ use borrow.Author.Tests.{lt-ltb, le-ltb, eq-eqb, ne_eqb}
 use Rattle.lists.specs.Extremes.{total}
 use Rattle.answer.specs.Limits.{longest}
 use Rattle.answer.specs.Rules.{outside}
+use Rattle.sizes.specs.Steps.{weighed}
 use Rattle.sizes.specs.Summary.{bins_of, rest_of, weighted, exactest, float, quotient, refused_by, summary_of}
 
-pub total-next : (s : List ℕ) (i : ℕ) → i < length s → total (take (i + 1) s) ≡ total (take i s) + get_or s i 0
-unfolding total
-total-next [] i h = absurd (not-suc-le-zero h)
-total-next (x ∷ s) zero h = omega arith
-total-next (x ∷ s) (suc i) h =
-    rw add-one (let t : total (take (suc i) s) ≡ total (take i s) + get_or s i 0 = rw (← add-one i) (total-next s i (le_of_suc-le-suc h)) in omega arith)
+weighed-next : (w : ℕ → ℕ) (s : List ℕ) (i : ℕ) → i < length s → weighed w (take (i + 1) s) ≡ weighed w (take i s) + get_or s i 0 * w i
+unfolding weighed
+weighed-next w [] i h = absurd (not-suc-le-zero h)
+weighed-next w (x ∷ s) zero h = omega arith
+weighed-next w (x ∷ s) (suc i) h =
+    let rest = rw add-one at (weighed-next (λ (i : ℕ). w (suc i)) s i (le_of_suc-le-suc h)) in
+    rw add-one (omega arith)
 
-pub total-part : (s : List ℕ) (i n : ℕ) → i ≤ n → total (take i s) ≤ total (take n s)
-unfolding total
-total-part s zero n h = zero-le
-total-part [] (suc i) n h = zero-le
-total-part (x ∷ s) (suc i) zero h = absurd (not-suc-le-zero h)
-total-part (x ∷ s) (suc i) (suc n) h = omega (arith, total-part s i n (le_of_suc-le-suc h))
+pub weighed-more : (w : ℕ → ℕ) (s : List ℕ) (i t x t' : ℕ) → i < length s → t ≡ weighed w (take i s) → x ≡ w i → t' ≡ t + get_or s i 0 * x
+    → t' ≡ weighed w (take (i + 1) s)
+weighed-more w s i t x t' h sum weight more = more ∙ ap₂ (λ (m n : ℕ). m + get_or s i 0 * n) sum weight ∙ sym (weighed-next w s i h)
 
-weighted-from : (k : ℕ) (s : List ℕ) (i : ℕ) → i < length s → weighted k (take (i + 1) s) ≡ weighted k (take i s) + get_or s i 0 * (k + i)
-unfolding weighted
-weighted-from k [] i h = absurd (not-suc-le-zero h)
-weighted-from k (x ∷ s) zero h = omega (arith, mul_comm x k, ap (λ (z : ℕ). x * z) (add-zero k))
-weighted-from k (x ∷ s) (suc i) h =
-    let w : weighted (suc k) (take (suc i) s) ≡ weighted (suc k) (take i s) + get_or s i 0 * suc (k + i) =
-    rw (← add-one i, ← suc-add) (weighted-from (suc k) s i (le_of_suc-le-suc h)) in
-    rw (add-one, add-suc) (omega arith)
+pub weighed-part : (w : ℕ → ℕ) (s : List ℕ) (n : ℕ) → weighed w (take n s) ≤ weighed w s
+unfolding weighed
+weighed-part w s zero = zero-le
+weighed-part w [] (suc n) = zero-le
+weighed-part w (x ∷ s) (suc n) = omega (arith, weighed-part (λ (i : ℕ). w (suc i)) s n)
 
-pub weighted-next : (s : List ℕ) (i : ℕ) → i < length s → weighted 1 (take (i + 1) s) ≡ weighted 1 (take i s) + get_or s i 0 * (i + 1)
-weighted-next s i h = rw (add_comm 1 i) at (weighted-from 1 s i h)
+weighed_same : (v w : ℕ → ℕ) (s : List ℕ) → ((i : ℕ) → v i ≡ w i) → weighed v s ≡ weighed w s
+unfolding weighed
+weighed_same v w [] e = refl
+weighed_same v w (x ∷ s) e =
+    ap₂ (λ (m n : ℕ). x * m + n) (e 0) (weighed_same (λ (i : ℕ). v (suc i)) (λ (i : ℕ). w (suc i)) s (λ i. e (suc i)))
 
-pub weighted-part : (k : ℕ) (s : List ℕ) (i n : ℕ) → i ≤ n → weighted k (take i s) ≤ weighted k (take n s)
-unfolding weighted
-weighted-part k s zero n h = zero-le
-weighted-part k [] (suc i) n h = zero-le
-weighted-part k (x ∷ s) (suc i) zero h = absurd (not-suc-le-zero h)
-weighted-part k (x ∷ s) (suc i) (suc n) h = omega (arith, weighted-part (suc k) s i n (le_of_suc-le-suc h))
+pub weighed-one : (s : List ℕ) → weighed (λ (i : ℕ). 1) s ≡ total s
+unfolding weighed total
+weighed-one [] = refl
+weighed-one (x ∷ s) = omega (arith, weighed-one s)
 
-pub over_by : (l x y : ℕ) → x / (l + 1) < y → x < y * (l + 1)
-over_by l x y = (div-lt_iff_lt-mul {k = l + 1} (omega arith)).0
+weighed-from : (k : ℕ) (s : List ℕ) → weighed (λ (i : ℕ). k + i) s ≡ weighted k s
+unfolding weighed weighted
+weighed-from k [] = refl
+weighed-from k (x ∷ s) =
+    ap₂ (λ (m n : ℕ). m + n) (ap (λ (n : ℕ). x * n) (add-zero k) ∙ mul_comm x k)
+    (weighed_same _ (λ (i : ℕ). suc k + i) s (λ i. omega arith) ∙ weighed-from (suc k) s)
 
-pub within_by : (l x y : ℕ) → y ≤ x / (l + 1) → y * (l + 1) ≤ x
-within_by l x y = (le-div_iff_mul-le {k = l + 1} (omega arith)).0
+pub weighed-lengths : (s : List ℕ) → weighed (λ (i : ℕ). i + 1) s ≡ weighted 1 s
+weighed-lengths s = weighed_same _ (λ (i : ℕ). 1 + i) s (λ i. add_comm i 1) ∙ weighed-from 1 s
 
 pub exact : (n : ℕ) → n ≤ exactest → T (in_float binary64 (pos n))
 unfolding in_float

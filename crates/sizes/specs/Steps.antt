@@ -1,34 +1,31 @@
 -- What the private parts keep to.
---   zeros n              a cleared sums slice of n entries
 --   entry_of K l         the entry of a stretch of l pixels: its length's bin, or the rest where there is none
---   entry_light K j ss      the light of those stretches of ss whose entry is j
+--   entry_light K j ss   the light of those stretches of ss whose entry is j
 --   lit s x              the sums slice s with the light of the stretch x added to its entry
 --   Sound s              a stretch has pixels, and its level is not below its base
 --   Modest s             no entry of a sums slice is above 2^62, so that a line's light can be added to it
 --   Adds f s s'          s' is s with bins and rest of the line f added
 --   Whole sh d size      rules 1, 2 and 5 accept a frame of size bytes
---   SetsPixels           the sums slice holds bins and rest of a frame by pixels: as if a length counted them
 --   Measured c n         c has counts of pixels, as of the lengths 1 to n: each is 1 at least, and at most its length
 --   spread_to c s i      entry i of the sums slice s by pixels as one by length: that of its count in c, and 0 where the next length has the same count
---   SetsFrame            the sums slice holds bins and rest of a frame
---   Roomy sh size spare  rules 1, 5 and 7 accept a frame of size bytes and spare bytes of scratch
---   SetsRow              the row holds bins and rest of a numbered direction
-use Rattle.std.specs.Prelude.{◌≡◌, true, cond, List, ℕ, suc, ◌+◌, ◌-◌, ◌≤◌, ◌<◌, ◌^◌, min, eqb, length, get_or, set}
-use Rattle.lists.specs.Tables.{table}
+--   weighed w s          the total of a list, each entry multiplied by the weight that w gives its index
+--   Exact n r            r is the outcome of a sum n: the sum itself up to 2^53, and above it the refusal of rule 11
+--   told r               the summary that stands for the outcome r
+use Rattle.std.specs.Prelude.{◌≡◌, cond, List, [], ◌∷◌, Result, Ok, Err, ◌*◌, ℕ, suc, ◌+◌, ◌-◌, ◌≤◌, ◌<◌, ◌^◌, min, eqb, length, get_or, set}
+use Rattle.answer.specs.declared.Refusal.{Refusal}
+use Rattle.answer.specs.declared.Refusal.TheVariants.{Bright}
 use Rattle.answer.specs.Limits.{longest}
+use Rattle.answer.specs.Refusals.{number_of}
 use Rattle.frame.specs.declared.direction.Direction.{Direction}
 use Rattle.frame.specs.declared.shape.Shape.{Shape}
-use Rattle.frame.specs.Direction.{numbered_of}
-use Rattle.frame.specs.Shape.{is_frame, needed, scratch_for}
+use Rattle.frame.specs.Shape.{needed}
 use Rattle.frame.specs.Sweep.{Accepted}
 use Rattle.bright.specs.declared.Stretch.{Stretch}
 use Rattle.bright.specs.Stretches.{long}
 use Rattle.bridge.specs.Sums.{light, light_of}
-use Rattle.sizes.specs.Sums.{sums_of, line_sums, pixel_sum, frame_sums}
-use Rattle.sizes.specs.Rose.{rose_bins}
-
-abbrev pub zeros : ℕ → List ℕ
-zeros n = table (λ (_ : ℕ). 0) n
+use Rattle.sizes.specs.declared.summary.Summary.{Summary}
+use Rattle.sizes.specs.Summary.{exactest, refused_by}
+use Rattle.sizes.specs.Sums.{line_sums}
 
 abbrev pub entry_of : ℕ → ℕ → ℕ
 entry_of K l = min (l - 1) K
@@ -56,10 +53,6 @@ pub record Whole (sh : Shape) (d : Direction) (size : ℕ) : Type 0 where
   pub ok : Accepted sh d
   pub source : needed sh ≤ size
 
-pub record SetsPixels (f : List ℕ) (sh : Shape) (d : Direction) (s s' scratch scratch' : List ℕ) : Type 0 where
-  pub set : s' ≡ sums_of (pixel_sum f sh d) (length s - 1)
-  pub kept : length scratch' ≡ length scratch
-
 pub record Measured (c : List ℕ) (n : ℕ) : Type 0 where
   pub each : length c ≡ n
   pub some : (i : ℕ) → i < n → 1 ≤ get_or c i 0
@@ -68,15 +61,14 @@ pub record Measured (c : List ℕ) (n : ℕ) : Type 0 where
 abbrev pub spread_to : List ℕ → List ℕ → ℕ → ℕ
 spread_to c s i = cond (eqb (get_or c i 0) (get_or c (suc i) 0)) 0 (get_or s (get_or c i 0 - 1) 0)
 
-pub record SetsFrame (f : List ℕ) (sh : Shape) (d : Direction) (s s' scratch scratch' : List ℕ) : Type 0 where
-  pub set : s' ≡ frame_sums f sh d (length s - 1)
-  pub kept : length scratch' ≡ length scratch
+unfoldable pub weighed : (ℕ → ℕ) → List ℕ → ℕ
+weighed w [] = 0
+weighed w (x ∷ xs) = x * w 0 + weighed (λ (i : ℕ). w (suc i)) xs
 
-pub record Roomy (sh : Shape) (size spare : ℕ) : Type 0 where
-  pub frame : is_frame sh ≡ true
-  pub source : needed sh ≤ size
-  pub room : scratch_for sh ≤ spare
+abbrev pub Exact : ℕ → Result ℕ Refusal → Type 0
+Exact n (Ok m) = (n ≤ exactest) × (m ≡ n)
+Exact n (Err e) = (exactest < n) × (e ≡ Bright)
 
-pub record SetsRow (f : List ℕ) (sh : Shape) (d : ℕ) (row scratch scratch' : List ℕ) : Type 0 where
-  pub set : row ≡ frame_sums f sh (numbered_of d) rose_bins
-  pub kept : length scratch' ≡ length scratch
+abbrev pub told : Result Summary Refusal → Summary
+told (Ok s) = s
+told (Err e) = refused_by (number_of e)

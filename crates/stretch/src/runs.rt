@@ -1,36 +1,24 @@
 // The open runs of a reading, as they lie in the lent scratch: a stack of four bytes a run, two of start, one of level and one free.
+// How many are open is no part of it: that number goes to the caller and comes back with the bookmark, and the bytes are the caller's.
 // The level is stored and read as one byte: two bytes stored apart and read as a pair would make the reading wait.
-ghost use Rattle.std.specs.Prelude.{◌≡◌, ◌∷◌, suc, ◌+◌, ◌*◌, ◌≤◌, ◌<◌, max, length};
+ghost use Rattle.std.specs.Prelude.{◌≡◌, ◌∷◌, suc, ◌+◌, ◌*◌, ◌≤◌, length};
 ghost use Rattle.bright.specs.Reading.{top_level, top_start};
 ghost use Rattle.bright.specs.Generator.{pair_at, put_pair, run8, stack_of};
 
 use crate::Pixel;
 
-pub(crate) fn wide(x: Pixel) -> u16
-    ensures { (result ≡ x) × (result < 256) }
-{
-    x as u16
-}
-
-pub(crate) fn brighter(a: Pixel, b: Pixel) -> Pixel
-    ensures { result ≡ max a b }
-{
-    if a < b { b } else { a }
-}
-
 pub(crate) fn pair_at(scratch: &[u8], at: usize) -> u16
     requires { at + 2 ≤ length scratch.now }
     ensures { result ≡ pair_at scratch.now at }
 {
-    wide(scratch[at]) + 256 * wide(scratch[at + 1])
+    u16::from_le_bytes([scratch[at], scratch[at + 1]])
 }
 
 pub(crate) fn put_pair(scratch: &mut [u8], at: usize, x: u16)
     requires { at + 2 ≤ length scratch.old }
     ensures { scratch.new ≡ put_pair scratch.old at x }
 {
-    scratch[at] = (x % 256) as u8;
-    scratch[at + 1] = (x / 256) as u8;
+    [scratch[at], scratch[at + 1]] = x.to_le_bytes();
 }
 
 // Stores a run as number i; those before it stay.

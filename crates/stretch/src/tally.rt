@@ -14,25 +14,14 @@ pub fn count(line: &[Pixel]) -> usize
     let mut levels: [Pixel; LEVELS] = [0; LEVELS];
     let mut depth: usize = 0;
     let mut total: usize = 0;
-    let mut read: usize = 0;
-    while read < line.len() {
-        let v = line[read];
-        if depth == 0 {
-            levels[0] = v;
-            depth = 1;
-            read += 1;
-        } else {
-            let top = levels[depth - 1];
-            if v < top {
-                depth -= 1;
-                total += 1;
-            } else if top < v {
-                levels[depth] = v;
-                depth += 1;
-                read += 1;
-            } else {
-                read += 1;
-            }
+    for &v in line {
+        while 0 < depth && v < levels[depth - 1] {
+            depth -= 1;
+            total += 1;
+        }
+        if depth == 0 || levels[depth - 1] < v {
+            levels[depth] = v;
+            depth += 1;
         }
     }
     total + depth

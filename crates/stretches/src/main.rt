@@ -5,9 +5,18 @@ use answer::LONGEST;
 use console::{PIXELS, ROOM};
 use frame::{Direction, Shape};
 use std::io::Write;
+use text::Input;
 
 // The bytes that the text of every line has room in: 64, and 107 for each of 4,096 pixels.
 const REPORT: usize = 438336;
+
+// A frame and a direction, as an input has them.
+#[derive(Clone, Copy)]
+struct Frame<'a> {
+    pixels: &'a [u8],
+    shape: Shape,
+    direction: Direction,
+}
 
 // Prints one line: its number, its pixel count and its stretches. Answers whether it is printed.
 fn print_line<W: Write>(stream: &mut W, number: i64, line: &[u8]) -> bool {
@@ -16,62 +25,59 @@ fn print_line<W: Write>(stream: &mut W, number: i64, line: &[u8]) -> bool {
     console::show(stream, &out, n)
 }
 
-// Gathers the line of a number and prints it. Answers whether it is printed.
-fn print_gathered<W: Write>(
-    stream: &mut W,
-    pixels: &[u8],
-    shape: Shape,
-    d: Direction,
-    number: i64,
-) -> bool {
-    let mut line = [0u8; LONGEST];
-    let a = gathering::gather(pixels, shape, d, number, &mut line);
-    if a.number != 0 {
-        return false;
-    }
-    let n = a.figure as usize;
-    if LONGEST < n {
-        return false;
-    }
-    print_line(stream, number, &line[..n])
-}
-
-// Prints the lines of a frame in ascending number, up to the first that cannot be printed: no line stands behind one that is missing.
-fn print_lines<W: Write>(stream: &mut W, pixels: &[u8], shape: Shape, d: Direction) {
-    let lines = frame::lines_of(shape, d);
-    let count = lines.count;
-    let mut u: usize = 0;
-    while u < count {
-        if !print_gathered(stream, pixels, shape, d, frame::line_number(shape, d, u)) {
-            return;
+impl<'a> Frame<'a> {
+    // The frame that is read, whose pixels stand row by row.
+    fn new(pixels: &'a [u8], read: Input) -> Frame<'a> {
+        Frame {
+            pixels,
+            shape: Shape {
+                width: read.width,
+                height: read.height,
+                stride: read.width,
+            },
+            direction: Direction::numbered(read.direction),
         }
-        u += 1;
+    }
+
+    // Gathers the line of a number and prints it. Answers whether it is printed.
+    fn print_gathered<W: Write>(&self, stream: &mut W, number: i64) -> bool {
+        let mut line = [0u8; LONGEST];
+        let Ok(n) = gathering::gather(self.pixels, self.shape, self.direction, number, &mut line)
+        else {
+            return false;
+        };
+        let Some(gathered) = line.get(..n) else {
+            return false;
+        };
+        print_line(stream, number, gathered)
+    }
+
+    // Prints the lines in ascending number, up to the first that cannot be printed: no line stands behind one that is missing.
+    fn print<W: Write>(&self, stream: &mut W) {
+        let lines = frame::lines_of(self.shape, self.direction);
+        for u in 0..lines.count {
+            let number = frame::line_number(self.shape, self.direction, u);
+            if !self.print_gathered(stream, number) {
+                return;
+            }
+        }
     }
 }
 
 // Reads a frame and prints its lines, or the refusal.
 fn answer_to<W: Write>(stream: &mut W, input: &[u8]) {
     let mut pixels = [0u8; PIXELS];
-    let read = text::read_input(input, &mut pixels);
-    let number = read.answer.number;
-    if number != 0 {
-        console::refuse(stream, number);
-        return;
+    match text::read_input(input, &mut pixels) {
+        Ok(read) => Frame::new(&pixels, read).print(stream),
+        Err(refusal) => console::refuse(stream, refusal.number()),
     }
-    let shape = Shape {
-        width: read.width,
-        height: read.height,
-        stride: read.width,
-    };
-    print_lines(stream, &pixels, shape, Direction::numbered(read.direction));
 }
 
 // Where a read fails, nothing is printed: what was read may lack its end.
+// `sums` has the same: one for both, over what a program does as a closure, would have a `requires`, which no public function has.
 fn main(rt: HostRuntime) {
     let mut input = [0u8; ROOM];
-    let received = console::receive(&mut rt.stdin(), &mut input);
-    let n = received.count;
-    if received.whole {
+    if let Ok(n) = console::receive(&mut rt.stdin(), &mut input) {
         answer_to(&mut rt.stdout(), &input[..n]);
     }
 }

@@ -2,15 +2,17 @@
 --   decimal-one      a number below ten
 --   decimal-more     a number from ten on: its text without the last digit, and the last digit
 --   decimal-length   the same for how long the text is
+--   decimal-some     each number has a digit
 --   decimal-most     no 64-bit number has more than 20 digits
 -- Assumes nothing.
 use mathlib.Core.Path.{◌≡◌, sym, ◌∙◌, ap, subst}
+use mathlib.Core.Bool.{cond}
 use mathlib.Core.List.{List, [], ◌∷◌, ◌++◌}
 use mathlib.Core.Logic.{⊎_elim}
 use Prim.Native.Nat.{ℕ, zero, suc, ◌+◌, ◌/◌, ◌%◌, ◌^◌, ◌≤◌, ◌<◌, zero-le}
 use native.Mathlib.Nat.{pow-suc, div-lt_iff_lt-mul}
 use native.Mathlib.Omega.{arith}
-use lib.Dec.{lit<}
+use lib.Dec.{lit<, ltb}
 use lib.ListN.{length, length-append}
 use borrow.Author.Tests.{lt-ltb, le-ltb}
 use Rattle.lists.proofs.Cases.{less_or_not}
@@ -42,6 +44,10 @@ decimal-more n h fits = before_last 19 n h ∙ ap (λ (l : List ℕ). l ++ ((48 
 
 pub decimal-length : (n : ℕ) → 10 ≤ n → n < 2 ^ 64 → length (decimal n) ≡ length (decimal (n / 10)) + 1
 decimal-length n h fits = ap length (decimal-more n h fits) ∙ length-append (decimal (n / 10)) ((48 + n % 10) ∷ [])
+
+pub decimal-some : (n : ℕ) → 1 ≤ length (decimal n)
+unfolding digits
+decimal-some n = omega (arith, length-append (cond (ltb n 10) [] (digits 19 (n / 10))) ((48 + n % 10) ∷ []))
 
 at_most : (k n : ℕ) → length (digits k n) ≤ k
 unfolding digits

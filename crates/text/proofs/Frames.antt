@@ -1,38 +1,36 @@
--- What reading an input knows at each of its rules, and what it leaves.
---   Below most vs            no value of vs is above `most`
---   fields_below, line-below no value read is above `most`
---   rows-many, rows-below    the rows have height times width pixels, each to 255
---   head_many, head_values   the first two lines have three numbers, which stand at the front of the buffer
---   stored-value             a value at the front of the buffer
---   refused-size, refused_head, refused_numbers    the answer, where a rule for the size or for the first two lines is broken
---   headed                   the first two lines, where they break no rule
---   rows_tested, tests_refused, tests_rows    what the tests leave
---   input_fits, input_many, input_value, input_small, input_room, input_below, input_pixels    what they leave of an input that is not refused
---   handing, input_refused, input_done    what the call hands back
+-- What a text holds that is read as a frame, and what the call leaves.
+--   Below most vs    no value of vs is above `most`; fields_below, line-below, rows-below: no value read is
+--   rows-many        the rows have height times width pixels
+--   rows_shorter     two bytes a pixel at least
+--   head_shorter     what follows the first two lines is no longer than the text
+--   input_many, input_short, input_room    where no rule is broken: how many pixels the rows have, which are few and have room
+--   input_refused, input_done    the outcome, where a rule is broken and where none is
+--   input_copied     .. and once they are copied they stand at the front
 -- Assumes nothing.
 use mathlib.Core.Path.{◌≡◌, refl, sym, ap, ◌∙◌}
-use mathlib.Core.Bool.{Bool, true, false, cond, not, ◌&&◌, false≢true}
-use mathlib.Core.List.{List, [], ◌∷◌, ◌++◌, append_assoc}
-use Prim.Native.Nat.{ℕ, zero, suc, ◌+◌, ◌*◌, ◌≤◌, ◌<◌, zero-le}
+use mathlib.Core.Bool.{Bool, true, false, cond, ◌&&◌, false≢true}
+use mathlib.Core.List.{List, [], ◌∷◌, ◌++◌}
+use Prim.Native.Nat.{ℕ, zero, suc, ◌+◌, ◌*◌, ◌≤◌, zero-le}
 use native.Mathlib.Nat.{suc-mul, mul_comm}
 use native.Mathlib.Omega.{arith}
-use lib.Dec.{ltb}
-use lib.ListN.{length, get_or, take, drop, length-append, get_or-append}
-use lib.Seq.{sets, drop_at, take_at, length-sets, get_or-append-add}
-use borrow.Author.Tests.{lt-ltb, le-ltb, ltb-false, not-false}
+use lib.ListN.{length, get_or, take, drop, length-append}
+use lib.Seq.{take_at}
+use borrow.Author.Tests.{ltb-false, not-false}
+use Rattle.std.specs.Prelude.{Ok, Err}
+use Rattle.lists.specs.Stores.{front}
 use Rattle.lists.proofs.Cases.{both_left}
 use Rattle.answer.specs.declared.Answer.{Answer}
-use Rattle.answer.specs.Limits.{longest}
-use Rattle.answer.specs.Rules.{rule, answer, done, refusal, checked, by_number, outside}
-use Rattle.answer.proofs.Rules.{kept, answer-chain}
+use Rattle.answer.specs.declared.Refusal.{Refusal}
+use Rattle.answer.specs.Rules.{answer, done, after, by_number}
+use Rattle.answer.specs.Refusals.{number_of}
+use Rattle.answer.proofs.Rules.{kept}
+use Rattle.answer.proofs.Refusals.{refused_number}
 use Rattle.text.specs.declared.input.Input.{Input}
-use Rattle.text.specs.declared.reading.Mark.{Mark}
 use Rattle.text.specs.Lines.{feed}
 use Rattle.text.specs.Reading.{largest_number, Values, valued, no_values, before, starts, field_of, fields_of, ended, line_of, rows_of}
-use Rattle.text.specs.Inputs.{longest_input, head_of, direction_in, width_in, height_in, rows_in, input_rules, input_of}
-use Rattle.text.specs.Steps.{Stores, number_rules, Headed, TestsRows, Tests}
-use Rattle.text.proofs.Runs.{sets_join, sets_front}
+use Rattle.text.specs.Inputs.{longest_input, head_of, direction_in, width_in, height_in, rows_in, input_rules, Outcome, outcome, input_of}
 use Rattle.text.proofs.Readings.{field_bound}
+use Rattle.text.proofs.Inputs.{line_shorter}
 use Rattle.text.proofs.Goings.{line-many}
 
 -- ---- values in their range
@@ -99,169 +97,65 @@ rows-many zero w (c ∷ s) e = absurd (false≢true e)
 rows-many (suc h) w s e =
     many-rows h w (line_of 82 255 w s).found (line_of 82 255 w s).values (rows_of h w (line_of 82 255 w s).rest) (line-many 82 255 w s) (rows-many h w (line_of 82 255 w s).rest) e
 
--- ---- the first two lines
+rows-shorter : (n : ℕ) (b : Bool) (xs t : List ℕ) (r : Values) → (b ≡ true → length t + 2 * length xs ≤ n) → (r.found ≡ true → 2 * length r.values ≤ length t)
+    → (cond b (before xs r) no_values).found ≡ true → 2 * length (cond b (before xs r) no_values).values ≤ n
+rows-shorter n true xs t r h c e = omega (arith, h refl, c e, length-append xs r.values)
+rows-shorter n false xs t r h c e = absurd (false≢true e)
 
-many_head : (b : Bool) (xs : List ℕ) (r : Values) → (b ≡ true → length xs ≡ 1) → (r.found ≡ true → length r.values ≡ 2) → (cond b (before xs r) no_values).found ≡ true
-    → length (cond b (before xs r) no_values).values ≡ 3
-many_head true xs r m c e = length-append xs r.values ∙ omega (arith, m refl, c e)
-many_head false xs r m c e = absurd (false≢true e)
+pub rows_shorter : (h w : ℕ) (s : List ℕ) → (rows_of h w s).found ≡ true → 2 * length (rows_of h w s).values ≤ length s
+unfolding rows_of
+rows_shorter zero w [] e = omega arith
+rows_shorter zero w (c ∷ s) e = absurd (false≢true e)
+rows_shorter (suc h) w s e =
+    let line = line_of 82 255 w s in
+    rows-shorter (length s) line.found line.values line.rest (rows_of h w line.rest) (line_shorter 82 255 w s) (rows_shorter h w line.rest) e
 
-pub head_many : (s : List ℕ) → (head_of s).found ≡ true → length (head_of s).values ≡ 3
+head-shorter : (n : ℕ) (b : Bool) (xs t : List ℕ) (r : Values) → (b ≡ true → length t ≤ n) → (r.found ≡ true → length r.rest ≤ length t)
+    → (cond b (before xs r) no_values).found ≡ true → length (cond b (before xs r) no_values).rest ≤ n
+head-shorter n true xs t r h c e = omega (arith, h refl, c e)
+head-shorter n false xs t r h c e = absurd (false≢true e)
+
+pub head_shorter : (s : List ℕ) → (head_of s).found ≡ true → length (head_of s).rest ≤ length s
 unfolding head_of
-head_many s e =
-    many_head (line_of 68 largest_number 1 s).found (line_of 68 largest_number 1 s).values (line_of 70 largest_number 2 (line_of 68 largest_number 1 s).rest) (line-many 68 largest_number 1 s) (line-many 70 largest_number 2 (line_of 68 largest_number 1 s).rest) e
+head_shorter s e =
+    let d = line_of 68 largest_number 1 s in
+    head-shorter (length s) d.found d.values d.rest (line_of 70 largest_number 2 d.rest) (λ f. omega (arith, line_shorter 68 largest_number 1 s f)) (λ f. omega (arith, line_shorter 70 largest_number 2 d.rest f)) e
 
--- a value stored from the first entry on
-pub stored-value : (vs xs : List ℕ) (k : ℕ) → length xs ≤ length vs → k < length xs → get_or (sets vs 0 xs) k 0 ≡ get_or xs k 0
-stored-value vs xs k fit h = rw (sets_front vs xs fit) (get_or-append xs (drop (length xs) vs) 0 k h)
-
-pub head_values : (s vs vs' : List ℕ) (r : Mark) → Stores (head_of s) s 0 0 vs vs' r → r.found ≡ true → 3 ≤ length vs → (k : ℕ) → k < 3 → get_or vs' k 0 ≡ get_or (head_of s).values k 0
-head_values s vs vs' r first f fit k h =
-    let three = head_many s (sym first.found ∙ f) in
-    rw (first.stored f) (stored-value vs (head_of s).values k (omega (arith, three)) (omega (arith, three)))
-
--- ---- the answer
-
-module _ (s : List ℕ) (room : ℕ) where
-  pub refused-size : longest_input < length s → answer (input_rules s room) 0 ≡ refusal 9 0
-  refused-size h = simp (lt-ltb _ _ h)
-
-  module _ (size : length s ≤ longest_input) where
-    pub refused_head : (head_of s).found ≡ false → answer (input_rules s room) 0 ≡ refusal 9 0
-    refused_head e = simp (le-ltb _ _ size, e)
-
-    module _ (head : (head_of s).found ≡ true) where
-      -- the answer of the numbers' rules, where one of them is broken
-      pub refused_numbers : (a : Answer) → a ≡ answer (number_rules (direction_in s) (width_in s) (height_in s)) 0 → (a.number ≡ 0 → ⊥) → answer (input_rules s room) 0 ≡ a
-      refused_numbers a e ne = go (outside 1 longest (width_in s)) refl (outside 1 longest (height_in s)) refl (ltb 15 (direction_in s)) refl
-        where
-          go : (t : Bool) → outside 1 longest (width_in s) ≡ t → (u : Bool) → outside 1 longest (height_in s) ≡ u → (v : Bool) → ltb 15 (direction_in s) ≡ v
-              → answer (input_rules s room) 0 ≡ a
-          go true t u h v d = simp (le-ltb _ _ size, head, t) (sym (e ∙ rw t))
-          go false t true h v d = simp (le-ltb _ _ size, head, t, h) (sym (e ∙ rw (t, h)))
-          go false t false h true d = simp (le-ltb _ _ size, head, t, h, d) (sym (e ∙ rw (t, h, d)))
-          go false t false h false d = absurd (ne (rw (e, t, h, d)))
-
--- ---- what the tests leave
-
-pub tests_refused : (s : List ℕ) (room : ℕ) (vs vs' : List ℕ) (a : Answer) → (a.number ≡ 0 → ⊥) → answer (input_rules s room) 0 ≡ a → Tests s room vs vs' a
-tests_refused s room vs vs' a ne q = record { answers = sym q; stored = λ z. absurd (ne z); fits = λ z. absurd (ne z) }
-
--- the first two lines, where no rule for their numbers is broken
-pub headed : (s vs vs₁ : List ℕ) (head : Mark) (d w h : ℕ) (a : Answer) → Stores (head_of s) s 0 0 vs vs₁ head → head.found ≡ true → length s ≤ longest_input
-    → longest_input ≤ 2 * length vs → d ≡ direction_in s → w ≡ width_in s → h ≡ height_in s → a ≡ answer (number_rules d w h) 0 → a.number ≡ 0 → Headed s head.next w h vs₁
-headed s vs vs₁ head d w h a first f size large d-is w-is h-is e z =
-    let there = sym first.found ∙ f in
-    let k = kept (number_rules d w h) 0 refl (rw e at z) in
-    let same = ap length (first.stored f) ∙ length-sets vs 0 (head_of s).values in
-    record {
-      size = size;
-      found = there;
-      width = w-is;
-      height = h-is;
-      wide = rw w-is at k.0;
-      high = rw h-is at k.1.0;
-      numbered = ltb-false 15 (direction_in s) (rw d-is at k.1.1.0);
-      rest = first.rest f;
-      room = record { inside = first.inside f; fewer = omega (arith, first.far f, head_many s there); large = omega (arith, same) };
-    }
-
--- the rows behind such lines, as they were read
-module _ {s : List ℕ} {at w h : ℕ} {vs vs' : List ℕ} {r : Mark} (head : Headed s at w h vs) (room : ℕ) (stores : Stores (rows_of h w (drop at s)) s at 3 vs vs' r) where
-  read : Stores (rows_in s) s at 3 vs vs' r
-  read =
-      let same : rows_of h w (drop at s) ≡ rows_in s = rw (head.width, head.height, head.rest) in
-      rw same at stores
-
-  -- the last two rules, checked one after the other
-  pub rows_tested : (a : Answer) → a ≡ checked (checked (done 0) (rule (not r.found) 9 0)) (rule (ltb room (w * h)) 6 (w * h)) → TestsRows s room at vs vs' a
-  rows_tested a e = record { answers = answers; stored = λ z. read.stored (there z); fits = λ z. omega (arith, read.far (there z), read.inside (there z)) }
-    where
-      answers : a ≡ answer (input_rules s room) 0
-      answers =
-          e ∙ rw (read.found, head.width, head.height, le-ltb _ _ head.size, head.found, head.wide, head.high, le-ltb _ _ head.numbered)
-          (answer-chain (drop 5 (input_rules s room)) 0 refl)
-
-      there : a.number ≡ 0 → r.found ≡ true
-      there z = read.found ∙ not-false (rows_in s).found (kept (input_rules s room) 0 refl (rw answers at z)).1.1.1.1.1.0
-
-pub tests_rows : (s : List ℕ) (room : ℕ) (vs vs₁ vs₂ : List ℕ) (head : Mark) (a : Answer) → Stores (head_of s) s 0 0 vs vs₁ head → head.found ≡ true → length s ≤ longest_input
-    → TestsRows s room head.next vs₁ vs₂ a → Tests s room vs vs₂ a
-tests_rows s room vs vs₁ vs₂ head a first f size rows =
-    let three = head_many s (sym first.found ∙ f) in
-    record {
-      answers = rows.answers;
-      stored = λ z. rows.stored z ∙ rw (first.stored f) (sets_join vs (head_of s).values (rows_in s).values 3 three);
-      fits = λ z. omega (arith, first.far f, rows.fits z, length-append (head_of s).values (rows_in s).values);
-    }
-
--- ---- an input that is not refused
-
-module _ (s : List ℕ) (room : ℕ) (vs vs' : List ℕ) (a : Answer) (tests : Tests s room vs vs' a) (z : a.number ≡ 0) (large : longest_input ≤ 2 * length vs) where
-  pub input_fits : ((head_of s).found ≡ true) × ((rows_in s).found ≡ true) × (width_in s * height_in s ≤ room)
-  input_fits =
-      let k = kept (input_rules s room) 0 refl (rw tests.answers at z) in
-      (not-false (head_of s).found k.1.0, not-false (rows_in s).found k.1.1.1.1.1.0, ltb-false room (width_in s * height_in s) k.1.1.1.1.1.1.0)
+module _ (s : List ℕ) (room : ℕ) (e : done 0 ≡ answer (input_rules s room) 0) where
+  input_kept : ((length s ≤ longest_input) × ((head_of s).found ≡ true)) × (((rows_in s).found ≡ true) × (width_in s * height_in s ≤ room))
+  input_kept =
+      let k = kept (input_rules s room) 0 refl (rw (sym e)) in
+      ((ltb-false longest_input (length s) k.0, not-false (head_of s).found k.1.0), (not-false (rows_in s).found k.1.1.1.1.1.0, ltb-false room (width_in s * height_in s) k.1.1.1.1.1.1.0))
 
   pub input_many : length (rows_in s).values ≡ width_in s * height_in s
-  input_many = rows-many (height_in s) (width_in s) (head_of s).rest input_fits.1 ∙ mul_comm (height_in s) (width_in s)
+  input_many = rows-many (height_in s) (width_in s) (head_of s).rest input_kept.1.0 ∙ mul_comm (height_in s) (width_in s)
 
-  whole : vs' ≡ (head_of s).values ++ ((rows_in s).values ++ drop (length ((head_of s).values ++ (rows_in s).values)) vs)
-  whole =
-      tests.stored z ∙ sets_front vs ((head_of s).values ++ (rows_in s).values) (omega (arith, tests.fits z))
-      ∙ append_assoc (head_of s).values (rows_in s).values (drop (length ((head_of s).values ++ (rows_in s).values)) vs)
+  pub input_short : 2 * (width_in s * height_in s) ≤ longest_input
+  input_short = omega (arith, input_kept.0.0, input_many, head_shorter s input_kept.0.1, rows_shorter (height_in s) (width_in s) (head_of s).rest input_kept.1.0)
 
-  pub input_value : (k : ℕ) → k < 3 → get_or vs' k 0 ≡ get_or (head_of s).values k 0
-  input_value k h =
-      let three = head_many s input_fits.0 in
-      rw whole (get_or-append (head_of s).values ((rows_in s).values ++ drop (length ((head_of s).values ++ (rows_in s).values)) vs) 0 k (omega (arith, three)))
+  pub input_room : width_in s * height_in s ≤ room
+  input_room = input_kept.1.1
 
-  pub input_small : width_in s * height_in s < longest_input
-  input_small = omega (arith, tests.fits z, length-append (head_of s).values (rows_in s).values, head_many s input_fits.0, input_many)
+  input_pixels : (vs vs' : List ℕ) → vs' ≡ front (rows_in s).values vs → take (width_in s * height_in s) vs' ≡ (rows_in s).values
+  input_pixels vs vs' h = rw h (take_at (rows_in s).values (drop (length (rows_in s).values) vs) (width_in s * height_in s) input_many)
 
-  pub input_room : 3 + width_in s * height_in s ≤ length vs'
-  input_room =
-      let same = ap length (tests.stored z) ∙ length-sets vs 0 ((head_of s).values ++ (rows_in s).values) in
-      omega (arith, same, tests.fits z, length-append (head_of s).values (rows_in s).values, head_many s input_fits.0, input_many)
-
-  pub input_below : (k : ℕ) → k < width_in s * height_in s → get_or vs' (3 + k) 0 ≤ 255
-  input_below k h =
-      let t = drop (length ((head_of s).values ++ (rows_in s).values)) vs in
-      let place : 3 + k ≡ length (head_of s).values + k = omega (arith, head_many s input_fits.0) in
-      let there = get_or-append-add (head_of s).values ((rows_in s).values ++ t) k 0 ∙ get_or-append (rows_in s).values t 0 k (omega (arith, input_many)) in
-      rw (whole, place, there) (rows-below (height_in s) (width_in s) (head_of s).rest input_fits.1 k)
-
-  pub input_pixels : take (width_in s * height_in s) (drop 3 vs') ≡ (rows_in s).values
-  input_pixels =
-      let t = drop (length ((head_of s).values ++ (rows_in s).values)) vs in
-      rw (whole, drop_at (head_of s).values ((rows_in s).values ++ t) 3 (head_many s input_fits.0)) (take_at (rows_in s).values t (width_in s * height_in s) input_many)
+  pub input_copied : (vs vs' dst : List ℕ) → vs' ≡ front (rows_in s).values vs → take (width_in s * height_in s) vs' ++ drop (width_in s * height_in s) dst ≡ front (rows_in s).values dst
+  input_copied vs vs' dst h = rw (input_pixels vs vs' h, input_many)
 
 -- ---- what the call hands back
 
-abbrev pub handing : Answer → ℕ → ℕ → ℕ → Input
-handing a d w h = record { answer = a; direction = d; width = w; height = h }
+outcome-refused : (a : Answer) (n d w h : ℕ) → (n ≡ 0 → ⊥)
+    → ◌≡◌ {A = Outcome} (record { answer = a; direction = 0; width = 0; height = 0 }) (record { answer = a; direction = by_number n d 0; width = by_number n w 0; height = by_number n h 0 })
+outcome-refused a zero d w h ne = absurd (ne refl)
+outcome-refused a (suc n) d w h ne = refl
 
--- the three numbers, or zeros, by an answer's number
-by : Answer → ℕ → ℕ → ℕ → ℕ → Input
-by a n d w h = handing a (by_number n d 0) (by_number n w 0) (by_number n h 0)
+module _ (s : List ℕ) (room : ℕ) where
+  pub input_refused : (e : Refusal) → (outcome (Err e)).answer ≡ answer (input_rules s room) 0 → outcome (Err e) ≡ input_of s room
+  input_refused e same =
+      outcome-refused (outcome (Err e)).answer (number_of e) (direction_in s) (width_in s) (height_in s) (refused_number e)
+      ∙ ap (λ (a : Answer). record { answer = a; direction = after a (direction_in s) 0; width = after a (width_in s) 0; height = after a (height_in s) 0 }) same
 
-by-refused : (a : Answer) (n d w h : ℕ) → (n ≡ 0 → ⊥) → handing a 0 0 0 ≡ by a n d w h
-unfolding by
-by-refused a zero d w h ne = absurd (ne refl)
-by-refused a (suc n) d w h ne = refl
-
-by-done : (a : Answer) (n d w h : ℕ) → n ≡ 0 → handing a d w h ≡ by a n d w h
-unfolding by
-by-done a zero d w h z = refl
-by-done a (suc n) d w h z = absurd (omega arith)
-
-module _ (s : List ℕ) (room : ℕ) (a : Answer) (e : a ≡ answer (input_rules s room) 0) where
-  handed : by a a.number (direction_in s) (width_in s) (height_in s) ≡ input_of s room
-  unfolding by
-  handed = ap (λ (x : Answer). by x x.number (direction_in s) (width_in s) (height_in s)) e
-
-  pub input_refused : (a.number ≡ 0 → ⊥) → handing a 0 0 0 ≡ input_of s room
-  input_refused ne = by-refused a a.number (direction_in s) (width_in s) (height_in s) ne ∙ handed
-
-  pub input_done : (d w h : ℕ) → a.number ≡ 0 → d ≡ direction_in s → w ≡ width_in s → h ≡ height_in s → handing a d w h ≡ input_of s room
-  input_done d w h z p q r = rw (p, q, r) (by-done a a.number (direction_in s) (width_in s) (height_in s) z ∙ handed)
+  pub input_done : (i : Input) → (outcome (Ok i)).answer ≡ answer (input_rules s room) 0 → i.direction ≡ direction_in s → i.width ≡ width_in s → i.height ≡ height_in s
+      → outcome (Ok i) ≡ input_of s room
+  input_done i same d w h =
+      rw (d, w, h) (ap (λ (a : Answer). record { answer = a; direction = after a (direction_in s) 0; width = after a (width_in s) 0; height = after a (height_in s) 0 }) same)

@@ -14,7 +14,7 @@ use Prim.Native.Nat.{ℕ, zero, suc, ◌+◌, ◌-◌, ◌*◌, ◌/◌, ◌%◌
 use native.Mathlib.Nat.{suc-mul, le_refl}
 use native.Mathlib.Omega.{arith}
 use lib.Dec.{ltb, leb, eqb}
-use lib.ListN.{length, get_or, take, drop, take-append-drop, length-drop}
+use lib.ListN.{length, get_or, take, drop, take-append-drop, length-append, length-drop}
 use lib.Seq.{take_at, drop_at, length-take-le}
 use borrow.Author.Tests.{lt-ltb, le-ltb, le-leb, eqb-true, eq-eqb, not-false}
 use Rattle.answer.specs.Limits.{longest}
@@ -27,7 +27,8 @@ use Rattle.text.specs.Decimal.{digits, decimal}
 use Rattle.text.specs.Lines.{tab, feed, fields_text, line_text}
 use Rattle.text.specs.Reading.{largest_number, is_digit, goes_on, Numeral, numeral, no_numeral, number_on, number_of, starts, at_most, field_of, Values, valued, no_values, before, fields_of, ended, line_of, rows_of}
 use Rattle.text.specs.Inputs.{longest_input, rows_text, frame_text, head_of, direction_in, width_in, height_in, rows_in, input_rules}
-use Rattle.text.proofs.Decimals.{decimal-one, decimal-more}
+use Rattle.text.proofs.Decimals.{decimal-one, decimal-more, decimal-some}
+use Rattle.text.proofs.Runs.{fields_least}
 use Rattle.text.proofs.Readings.{digit_facts, goes_facts}
 use Rattle.text.proofs.Goings.{line-many}
 
@@ -199,6 +200,18 @@ unfolding line_of
 line-found b most vs t range w =
     let same : (fields_text vs ++ (feed ∷ [])) ++ t ≡ fields_text vs ++ (feed ∷ t) = append_assoc (fields_text vs) (feed ∷ []) t in
     rw (eq-eqb b b refl, same, fields_found most vs t range w)
+
+-- ---- a text is longer than what follows its values, by two bytes a value
+
+pub field_shorter : (most : ℕ) (s : List ℕ) → (field_of most s).found ≡ true → length (field_of most s).rest + 2 ≤ length s
+field_shorter most s e =
+    let v = (field_of most s).value in
+    omega (arith, ap length (field_sound most s e), length-append (tab ∷ decimal v) (field_of most s).rest, decimal-some v)
+
+pub line_shorter : (b most n : ℕ) (s : List ℕ) → (line_of b most n s).found ≡ true → length (line_of b most n s).rest + 2 * length (line_of b most n s).values ≤ length s
+line_shorter b most n s e =
+    let vs = (line_of b most n s).values in
+    omega (arith, ap length (line-sound b most n s e), length-append (line_text b vs) (line_of b most n s).rest, length-append (fields_text vs) (feed ∷ []), fields_least vs)
 
 -- ---- rows
 

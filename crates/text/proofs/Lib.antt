@@ -2,9 +2,9 @@
 --   Decimals    the decimal text of a number, one digit more; how long it is
 --   Runs        runs of stores, one after the other; fields and lines
 --   Texts       the sums text
---   Readings    reading a text place by place: numbers and fields
+--   Readings    what the tests of a reading say
 --   Goings      reading values one after the other: fields, lines and rows
---   Frames      reading an input, rule by rule
+--   Frames      what a text holds that is read as a frame, and what the call leaves
 --   Inputs      what is read is there as text, and what is there as text is read
 --   Reports     what is printed of a line and of a refusal
 --   Printings   the stretches of a line, found one after the other, and the `Z` line of each

@@ -2,19 +2,18 @@
 --   lines_from f i            the `Z` lines of the line f, from the record at i on
 --   Printing f es m p i       where such a reading of f stands, with the enclosers' places in es; printing_start
 --   printing_none             the next step finds no stretch: no `Z` line is left
---   printing_inside, -few     it finds one: the place of its encloser stands at i of es; i is small
---   printing_less             .. fewer stretches are to come
---   printing_first, -length   .. the next `Z` line is that of the stretch found, with the number at i of es; how long the lines are
+--   printing_past             .. nor where i is behind the last of es
+--   printing_first            it finds one: the next `Z` line is that of the stretch found, with the number at i of es
 --   printing_more             .. and the reading stands behind it
 --   places-there              the enclosers' places stand where the call `enclosers` has put them
 -- Assumes nothing.
 use mathlib.Core.Path.{◌≡◌, sym, ap, ◌∙◌}
-use mathlib.Core.Bool.{true, false}
+use Rattle.std.specs.Prelude.{None, Some}
 use mathlib.Core.List.{List, [], ◌++◌}
 use Prim.Native.Nat.{ℕ, suc, ◌+◌, ◌*◌, ◌≤◌, ◌<◌}
 use native.Mathlib.Numerals.{add-one}
 use native.Mathlib.Omega.{arith}
-use lib.ListN.{length, get_or, take, drop, length-append, length-take, drop_of_length-le}
+use lib.ListN.{length, get_or, take, drop, length-take, drop_of_length-le}
 use lib.Seq.{drop-cons, get_or-take, take-append_seam}
 use borrow.Author.Tests.{le-leb}
 use Rattle.answer.specs.Limits.{longest}
@@ -24,9 +23,8 @@ use Rattle.bright.specs.declared.Stretch.{Stretch}
 use Rattle.bright.specs.Stretches.{stretches, no_stretch}
 use Rattle.bright.specs.Generator.{run8, beginning, coming, Follows}
 use Rattle.bright.specs.Nesting.{encloser_of, nested, records, enclosers_of, NestsLine}
-use Rattle.bright.proofs.Counting.{stretches-few}
 use Rattle.bright.proofs.Records.{records-length, records-at, enclosers_length, enclosers_at}
-use Rattle.bright.proofs.Steps.{coming-beginning, coming-next, place_inside, place_found, place-others, place_none}
+use Rattle.bright.proofs.Steps.{coming-beginning, place_inside, place_found, place-others, place_none}
 use Rattle.text.specs.Lines.{line_text}
 use Rattle.text.specs.Stretches.{stretch_fields, stretches_text}
 use Rattle.text.proofs.Reports.{stretches-cons, stretches-none}
@@ -43,45 +41,38 @@ pub record Printing (f es m : List ℕ) (p : Bookmark) (i : ℕ) : Type 0 where
 pub printing_start : (f es m : List ℕ) → length f ≤ longest → 4 * length f ≤ length m → take (length (stretches f)) es ≡ enclosers_of (stretches f) → Printing f es m beginning 0
 printing_start f es m pixels room places = record { pixels = pixels; others = coming-beginning run8 f m pixels room; places = places }
 
-module _ {f es m : List ℕ} {p : Bookmark} {i : ℕ} (g : Printing f es m p i) {m' : List ℕ} {r : Step} (h : Follows run8 f m p m' r) where
+lines_past : (f : List ℕ) (i : ℕ) → length (stretches f) ≤ i → lines_from f i ≡ []
+lines_past f i h = ap stretches_text (drop_of_length-le (records (stretches f)) (omega (arith, records-length (stretches f)))) ∙ stretches-none
+
+pub printing_none : {f es m : List ℕ} {p : Bookmark} {i : ℕ} → Printing f es m p i → {m' : List ℕ} → Follows run8 f m p m' None → lines_from f i ≡ []
+printing_none {f} {es} {m} {p} {i} g h = lines_past f i (place_none h (stretches f) i g.others)
+
+pub printing_past : {f es m : List ℕ} {p : Bookmark} {i : ℕ} → Printing f es m p i → length es ≤ i → lines_from f i ≡ []
+printing_past {f} {es} {m} {p} {i} g h =
+    let ss = stretches f in
+    lines_past f i (omega (arith, ap length g.places, length-take (length ss) es, enclosers_length ss))
+
+module _ {f es m : List ℕ} {p : Bookmark} {i : ℕ} (g : Printing f es m p i) {m' : List ℕ} {s : Step} (h : Follows run8 f m p m' (Some s)) where
   abbrev ss : List Stretch
   ss = stretches f
 
-  pub printing_none : r.found ≡ false → lines_from f i ≡ []
-  printing_none y =
-      let past : length (records ss) ≤ i = omega (arith, place_none h ss i g.others y, records-length ss) in
-      ap stretches_text (drop_of_length-le (records ss) past) ∙ stretches-none
+  inside : i < length ss
+  inside = place_inside h ss i g.others
 
-  module _ (y : r.found ≡ true) where
-    inside : i < length ss
-    inside = place_inside h ss i g.others y
+  there : get_or es i 0 ≡ encloser_of ss i
+  there = sym (get_or-take (length ss) es i 0 inside) ∙ ap (λ (l : List ℕ). get_or l i 0) g.places ∙ enclosers_at ss i inside
 
-    there : get_or es i 0 ≡ encloser_of ss i
-    there = sym (get_or-take (length ss) es i 0 inside) ∙ ap (λ (l : List ℕ). get_or l i 0) g.places ∙ enclosers_at ss i inside
+  record_there : get_or (records ss) i (nested no_stretch 0) ≡ nested s.stretch (get_or es i 0)
+  record_there =
+      rw (place_found h ss i g.others, there) (records-at ss i inside)
 
-    record_there : get_or (records ss) i (nested no_stretch 0) ≡ nested r.stretch (get_or es i 0)
-    record_there =
-        rw (place_found h ss i g.others y, there) (records-at ss i inside)
+  pub printing_first : lines_from f i ≡ line_text 90 (stretch_fields (nested s.stretch (get_or es i 0))) ++ lines_from f (i + 1)
+  printing_first =
+      ap stretches_text (drop-cons (records ss) i (nested no_stretch 0) (omega (arith, inside, records-length ss)))
+      ∙ rw (record_there, add-one) (stretches-cons (nested s.stretch (get_or es i 0)) (drop (suc i) (records ss)))
 
-    pub printing_inside : i < length es
-    printing_inside = omega (arith, inside, ap length g.places, length-take (length ss) es, enclosers_length ss)
-
-    pub printing_few : i < longest
-    printing_few = omega (arith, inside, stretches-few f, g.pixels)
-
-    pub printing_less : length (coming run8 f m' r.bookmark) < length (coming run8 f m p)
-    printing_less = omega (arith, ap length (coming-next h y))
-
-    pub printing_first : lines_from f i ≡ line_text 90 (stretch_fields (nested r.stretch (get_or es i 0))) ++ lines_from f (i + 1)
-    printing_first =
-        ap stretches_text (drop-cons (records ss) i (nested no_stretch 0) (omega (arith, inside, records-length ss)))
-        ∙ rw (record_there, add-one) (stretches-cons (nested r.stretch (get_or es i 0)) (drop (suc i) (records ss)))
-
-    pub printing_length : length (lines_from f i) ≡ length (line_text 90 (stretch_fields (nested r.stretch (get_or es i 0)))) + length (lines_from f (i + 1))
-    printing_length = ap length printing_first ∙ length-append (line_text 90 (stretch_fields (nested r.stretch (get_or es i 0)))) (lines_from f (i + 1))
-
-    pub printing_more : Printing f es m' r.bookmark (i + 1)
-    printing_more = record { pixels = g.pixels; others = place-others h ss i g.others y; places = g.places }
+  pub printing_more : Printing f es m' s.bookmark (i + 1)
+  printing_more = record { pixels = g.pixels; others = place-others h ss i g.others; places = g.places }
 
 pub places-there : {f es es' m m' : List ℕ} {r : ℕ} → NestsLine f es es' m m' r → length f ≤ longest → length f ≤ length es → 4 * length f ≤ length m
     → take (length (stretches f)) es' ≡ enclosers_of (stretches f)

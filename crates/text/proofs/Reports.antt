@@ -1,13 +1,11 @@
 -- What is printed of a line and of a refusal.
---   signed_below, signed_above   a line number below 0, and one that is not
---   title_put, title_length, title_most    the parts of the `L` line, put one behind the other; how long it is; title_room, title_ends: they have room
---   title_below, title_above               how long it is beside a line with both numbers
+--   signed_most                  how long a line number is at most
+--   title_put, title_length, title_most    the parts of the `L` line, put one behind the other; how long it is, and how long at most
 --   stretches-cons, stretches-none         the `Z` lines, with the first apart; none
 --   stretches-most                         how long they are at most
 --   report_put, report_length, report_fits the `L` line and the `Z` lines; how long they are; 64 bytes, and 107 a pixel, are room for them; report_some: there are some
 --   printable, too_long, no_room           a line of at most 4,096 pixels whose text has room; one with more pixels; one whose text has no room
 --   refusal_is, refusal-length   the text of a refusal; how long it is
---   puts_as                      the same text by another name
 --   prints_done, prints_none     a text put at the front, or none
 --   line_example                 document 01's example of the program stretches, with the fifth numbers
 -- Assumes nothing.
@@ -34,19 +32,15 @@ use Rattle.text.specs.Decimal.{digits, decimal}
 use Rattle.text.specs.Lines.{tab, feed, fields_text, line_text, Puts}
 use Rattle.text.specs.Stretches.{signed_text, title_text, stretch_fields, stretches_text, line_report, refusal_text, is_printable, Prints}
 use Rattle.text.proofs.Decimals.{decimal-most}
-use Rattle.text.proofs.Runs.{puts_join, puts_length, fields_most}
+use Rattle.text.proofs.Runs.{puts_join, fields_most}
 use Rattle.text.proofs.Texts.{put_front}
 
-signed_most : (n : ℕ) (b : Bool) → length (cond b (45 ∷ decimal n) (decimal n)) ≤ 21
-signed_most n true = omega (arith, decimal-most n)
-signed_most n false = omega (arith, decimal-most n)
+most_signed : (n : ℕ) (b : Bool) → length (cond b (45 ∷ decimal n) (decimal n)) ≤ 21
+most_signed n true = omega (arith, decimal-most n)
+most_signed n false = omega (arith, decimal-most n)
 
-module _ (z : ℤ) (n : ℕ) (size : n ≡ nat_abs z) where
-  pub signed_below : lt_z z (pos 0) ≡ true → signed_text z ≡ 45 ∷ decimal n
-  signed_below e = rw (e, size)
-
-  pub signed_above : lt_z z (pos 0) ≡ false → signed_text z ≡ decimal n
-  signed_above e = rw (e, size)
+pub signed_most : (z : ℤ) → length (signed_text z) ≤ 21
+signed_most z = most_signed (nat_abs z) (lt_z z (pos 0))
 
 module _ (z : ℤ) (n : ℕ) where
   pub title_length : length (title_text z n) ≡ 3 + length (signed_text z) + length (tab ∷ decimal n)
@@ -56,38 +50,12 @@ module _ (z : ℤ) (n : ℕ) where
       ∙ omega (arith, length-append (signed_text z) ((tab ∷ decimal n) ++ (feed ∷ [])), length-append (tab ∷ decimal n) (feed ∷ []))
 
   pub title_most : length (title_text z n) ≤ 64
-  title_most = omega (arith, title_length, signed_most (nat_abs z) (lt_z z (pos 0)), decimal-most n)
-
-  -- there is room for the count, and then for the line feed
-  pub title_room : {d d₁ d₂ : List ℕ} {r₁ r₂ : ℕ} → Puts d 0 (76 ∷ tab ∷ []) d₁ r₁ → Puts d₁ r₁ (signed_text z) d₂ r₂ → length (title_text z n) ≤ length d
-      → r₂ + length (tab ∷ decimal n) ≤ length d₂
-  title_room p q fit = omega (arith, p.next, puts_length p, q.next, puts_length q, title_length)
-
-  pub title_ends : {d d₁ d₂ d₃ : List ℕ} {r₁ r₂ r₃ : ℕ} → Puts d 0 (76 ∷ tab ∷ []) d₁ r₁ → Puts d₁ r₁ (signed_text z) d₂ r₂ → Puts d₂ r₂ (tab ∷ decimal n) d₃ r₃
-      → length (title_text z n) ≤ length d → r₃ < length d₃
-  title_ends p q r fit = omega (arith, p.next, puts_length p, q.next, puts_length q, r.next, puts_length r, title_length)
+  title_most = omega (arith, title_length, signed_most z, decimal-most n)
 
   pub title_put : {d d₁ d₂ d₃ d₄ : List ℕ} {r₁ r₂ r₃ r₄ : ℕ} → Puts d 0 (76 ∷ tab ∷ []) d₁ r₁ → Puts d₁ r₁ (signed_text z) d₂ r₂ → Puts d₂ r₂ (tab ∷ decimal n) d₃ r₃
       → Puts d₃ r₃ (feed ∷ []) d₄ r₄ → Puts d 0 (title_text z n) d₄ r₄
   unfolding title_text
   title_put p q r s = puts_join p (puts_join q (puts_join r s))
-
-pair_length : (m n : ℕ) → length (line_text 0 (m ∷ n ∷ [])) ≡ 4 + length (decimal m) + length (decimal n)
-unfolding fields_text
-pair_length m n =
-    omega (
-      arith,
-      length-append (fields_text (m ∷ n ∷ [])) (feed ∷ []),
-      length-append (tab ∷ decimal m) (fields_text (n ∷ [])),
-      length-append (tab ∷ decimal n) [],
-    )
-
-module _ (z : ℤ) (n m : ℕ) (size : m ≡ nat_abs z) where
-  pub title_below : lt_z z (pos 0) ≡ true → length (title_text z n) ≡ length (line_text 0 (m ∷ n ∷ [])) + 1
-  title_below e = omega (arith, title_length z n, ap length (signed_below z m size e), pair_length m n)
-
-  pub title_above : lt_z z (pos 0) ≡ false → length (title_text z n) ≡ length (line_text 0 (m ∷ n ∷ []))
-  title_above e = omega (arith, title_length z n, ap length (signed_above z m size e), pair_length m n)
 
 stretch-most : (ss : List Nested) → length (stretches_text ss) ≤ 107 * length ss
 unfolding stretches_text
@@ -137,9 +105,6 @@ refusal_is n = ap (λ (l : List ℕ). 69 ∷ tab ∷ (l ++ (feed ∷ []))) (appe
 
 pub refusal-length : (n : ℕ) → length (refusal_text n) ≡ 3 + length (decimal n)
 refusal-length n = omega (arith, ap length (refusal_is n), length-append (decimal n) (feed ∷ []))
-
-pub puts_as : {d t t' d' : List ℕ} {at r : ℕ} → Puts d at t d' r → t' ≡ t → Puts d at t' d' r
-puts_as {d} {t} {t'} {d'} {at} {r} p e = rw e p
 
 pub prints_done : {ok : Bool} {t dst dst' : List ℕ} {r : ℕ} → ok ≡ true → Puts dst 0 t dst' r → length t ≤ length dst → Prints ok t dst dst' r
 prints_done {ok} {t} {dst} {dst'} {r} e p fit = rw e (record { bytes = omega (arith, p.next); written = put_front p fit })

@@ -6,12 +6,17 @@
 --   direction_in s, width_in s, height_in s  the three
 --   rows_in s              the rows that follow them
 --   input_rules s room     the rules of the call
---   input_of s room        what the call hands back
+--   Outcome, outcome r     what the call hands back, as an answer and three numbers
+--   input_of s room        the outcome for a text
+--   ReadsInput s dst dst' r    what the call hands back and leaves
 -- Laws: text/proofs/Inputs (frame-read: a text in which `head_of` and `rows_in` find lines and rows is a frame's; frame-written: in the text of a frame they do).
-use Rattle.std.specs.Prelude.{◌≡◌, cond, not, List, [], ◌∷◌, ◌++◌, ℕ, zero, suc, ◌*◌, ltb, length, get_or, take, drop}
+use Rattle.std.specs.Prelude.{◌≡◌, cond, not, List, [], ◌∷◌, ◌++◌, ℕ, zero, suc, ◌*◌, ltb, length, get_or, take, drop, Result, Ok, Err}
 use Rattle.lists.specs.Stores.{front}
+use Rattle.answer.specs.declared.Answer.{Answer}
+use Rattle.answer.specs.declared.Refusal.{Refusal}
 use Rattle.answer.specs.Limits.{longest}
-use Rattle.answer.specs.Rules.{Rule, rule, answer, after, outside}
+use Rattle.answer.specs.Rules.{Rule, rule, answer, done, refusal, after, outside}
+use Rattle.answer.specs.Refusals.{number_of, needed_of}
 use Rattle.text.specs.declared.input.Input.{Input}
 use Rattle.text.specs.Lines.{line_text}
 use Rattle.text.specs.Reading.{largest_number, Values, no_values, before, line_of, rows_of}
@@ -57,13 +62,24 @@ input_rules s room =
     ∷ rule (ltb room (width_in s * height_in s)) 6 (width_in s * height_in s)
     ∷ []
 
+-- what a call hands back: its answer; and direction number, width and height, zeros where it refuses
+pub record Outcome : Type 0 where
+  pub answer : Answer
+  pub direction : ℕ
+  pub width : ℕ
+  pub height : ℕ
+
+abbrev pub outcome : Result Input Refusal → Outcome
+outcome (Ok i) = record { answer = done 0; direction = i.direction; width = i.width; height = i.height }
+outcome (Err e) = record { answer = refusal (number_of e) (needed_of e); direction = 0; width = 0; height = 0 }
+
 -- the three numbers of a text that is not refused; else zeros
-abbrev pub input_of : List ℕ → ℕ → Input
+abbrev pub input_of : List ℕ → ℕ → Outcome
 input_of s room =
     let a = answer (input_rules s room) 0 in
     record { answer = a; direction = after a (direction_in s) 0; width = after a (width_in s) 0; height = after a (height_in s) 0 }
 
 -- the pixels row by row at the front of the destination
-pub record ReadsInput (s dst dst' : List ℕ) (r : Input) : Type 0 where
+pub record ReadsInput (s dst dst' : List ℕ) (r : Outcome) : Type 0 where
   pub reads : r ≡ input_of s (length dst)
   pub written : dst' ≡ after r.answer (front (rows_in s).values dst) dst

@@ -1,235 +1,139 @@
-// Reading numbers, lines and rows from a text. A value takes two bytes of text at least, so a buffer of half as many entries as the text has bytes holds them all.
-ghost use Rattle.std.specs.Prelude.{◌≡◌, ◌+◌, ◌*◌, ◌≤◌, ◌<◌, length, drop};
-ghost use Rattle.text.specs.Reading.{largest_number, is_digit, goes_on, number_on, number_of, starts, field_of, fields_of, line_of, rows_of};
-ghost use Rattle.text.specs.Inputs.{head_of};
-ghost use Rattle.text.specs.Steps.{no_number, no_mark, Reads, Room, Stores};
+// Reading numbers, lines and rows from the front of a text: each reading hands back what follows it, or nothing where what it looks for is not there.
+// A pixel takes two bytes of text at least, so a buffer of half as many pixels as the text has bytes holds them all.
+ghost use Rattle.std.specs.Prelude.{◌≡◌, ◌*◌, ◌≤◌, ◌<◌, length};
+ghost use Rattle.text.specs.Reading.{goes_on, number_on, number_of, field_of, fields_of, line_of, rows_of};
+ghost use Rattle.text.specs.Steps.{IsNumber, Reads, Follows, Heads, Stores, Rows};
+
+use crate::Pixel;
+use crate::input::Input;
 
 // The largest number of an input.
 const LARGEST_NUMBER: usize = 65535;
 
-// Whether a number was read, its value, and the place behind it.
+// The largest pixel.
+const LARGEST_PIXEL: usize = 255;
+
+// A number that was read, and what follows it.
 #[derive(Clone, Copy)]
-pub(crate) struct Number {
-    pub found: bool,
+pub(crate) struct Number<'a> {
     pub value: usize,
-    pub next: usize,
-}
-
-// Whether values were read, and the place behind them.
-#[derive(Clone, Copy)]
-pub(crate) struct Mark {
-    pub found: bool,
-    pub next: usize,
-}
-
-fn wide(x: u8) -> usize
-    ensures { (result ≡ x) × (result < 256) }
-{
-    x as usize
-}
-
-fn is_digit(c: usize) -> bool
-    ensures { result ≡ is_digit c }
-{
-    if c < 48 {
-        return false;
-    }
-    c <= 57
+    pub rest: &'a [u8],
 }
 
 // Whether c is one more digit of a number whose value so far is `value`. A 0 takes none, so that no number has a leading zero;
 // nor does a number that is above every range already.
-fn goes_on(value: usize, c: usize) -> bool
+fn goes_on(value: usize, c: u8) -> bool
     ensures { result ≡ goes_on value c }
 {
-    if value == 0 {
-        return false;
-    }
-    if LARGEST_NUMBER < value {
-        return false;
-    }
-    is_digit(c)
+    0 < value && value <= LARGEST_NUMBER && c.is_ascii_digit()
 }
 
-// The number whose value so far is `first`, and which goes on at `at`.
-fn number_on(text: &[u8], at: usize, first: usize) -> Number
-    requires { (at ≤ length text.now) × (first < 10) }
-    ensures { Reads (number_on first (drop at text.now)) text.now at result }
+// The number whose value so far is `first`, and which goes on at the front of the text.
+#[tactic(auto, unfolding(crate::specs::Reading::number_on))]
+fn number_on(text: &[u8], first: usize) -> Number<'_>
+    requires { first < 10 }
+    ensures { IsNumber (number_on first text.now) result }
 {
     let mut value = first;
-    let mut next = at;
-    while next < text.len() {
-        let c = wide(text[next]);
-        if !goes_on(value, c) {
-            return Number {
-                found: true,
-                value,
-                next,
-            };
-        }
-        value = 10 * value + (c - 48);
-        next += 1;
+    let mut rest = text;
+    while let Some((c, behind)) = rest.split_first()
+        && goes_on(value, *c)
+    {
+        value = 10 * value + usize::from(*c - b'0');
+        rest = behind;
     }
-    Number {
-        found: true,
-        value,
-        next,
-    }
+    Number { value, rest }
 }
 
-fn no_number() -> Number
-    ensures { result ≡ no_number }
+// The number at the front.
+#[tactic(auto, unfolding(crate::specs::Reading::number_of))]
+fn read_number(text: &[u8]) -> Option<Number<'_>>
+    ensures { Reads (number_of text.now) result }
 {
-    Number {
-        found: false,
-        value: 0,
-        next: 0,
+    let (c, rest) = text.split_first()?;
+    if !c.is_ascii_digit() {
+        return None;
     }
+    Some(number_on(rest, usize::from(*c - b'0')))
 }
 
-// The number at `at`.
-fn read_number(text: &[u8], at: usize) -> Number
-    ensures { Reads (number_of (drop at text.now)) text.now (at + 1) result }
+// What follows the byte b, where it stands at the front.
+fn behind(text: &[u8], b: u8) -> Option<&[u8]>
+    ensures { Follows b text.now result }
 {
-    if text.len() <= at {
-        return no_number();
-    }
-    let c = wide(text[at]);
-    if !is_digit(c) {
-        return no_number();
-    }
-    number_on(text, at + 1, c - 48)
+    let (first, rest) = text.split_first()?;
+    if *first == b { Some(rest) } else { None }
 }
 
-// Whether the byte b stands at `at`.
-fn is_at(text: &[u8], at: usize, b: u8) -> bool
-    ensures { result ≡ starts b (drop at text.now) }
+// The field at the front: a tab, and a number of at most `most`.
+#[tactic(auto, unfolding(crate::specs::Reading::field_of))]
+fn read_field(text: &[u8], most: usize) -> Option<Number<'_>>
+    ensures { Reads (field_of most text.now) result }
 {
-    if text.len() <= at {
-        return false;
+    let number = read_number(behind(text, b'\t')?)?;
+    if number.value <= most {
+        Some(number)
+    } else {
+        None
     }
-    text[at] == b
 }
 
-// The field at `at`: a tab, and a number of at most `most`.
-fn read_field(text: &[u8], at: usize, most: usize) -> Number
-    ensures { Reads (field_of most (drop at text.now)) text.now (at + 2) result }
+// The first two lines, and what follows them.
+#[tactic(auto, unfolding(crate::specs::Inputs::head_of, crate::specs::Reading::line_of, crate::specs::Reading::fields_of))]
+pub(crate) fn read_head(text: &[u8]) -> Option<(Input, &[u8])>
+    ensures { Heads text.now result }
 {
-    if !is_at(text, at, b'\t') {
-        return no_number();
-    }
-    let number = read_number(text, at + 1);
-    if !number.found {
-        return no_number();
-    }
-    if most < number.value {
-        return no_number();
-    }
-    number
+    let direction = read_field(behind(text, b'D')?, LARGEST_NUMBER)?;
+    let frame = behind(direction.rest, b'\n')?;
+    let width = read_field(behind(frame, b'F')?, LARGEST_NUMBER)?;
+    let height = read_field(width.rest, LARGEST_NUMBER)?;
+    let rest = behind(height.rest, b'\n')?;
+    let input = Input {
+        direction: direction.value,
+        width: width.value,
+        height: height.value,
+    };
+    Some((input, rest))
 }
 
-fn no_mark() -> Mark
-    ensures { result ≡ no_mark }
+// The `width` fields at the front, their pixels stored at the front of `pixels`.
+fn read_fields<'a>(text: &'a [u8], width: usize, pixels: &mut [Pixel]) -> Option<&'a [u8]>
+    requires { length text.now ≤ 2 * length pixels.old }
+    ensures { Stores (fields_of 255 width text.now) pixels.old pixels.new result }
 {
-    Mark {
-        found: false,
-        next: 0,
+    let mut rest = text;
+    for i in 0..width {
+        let field = read_field(rest, LARGEST_PIXEL)?;
+        pixels[i] = field.value as Pixel;
+        rest = field.rest;
     }
+    Some(rest)
 }
 
-// The `count` fields at `at`, each of at most `most`, their numbers stored from entry `from` on.
-fn read_fields(
-    text: &[u8],
-    at: usize,
-    most: usize,
-    values: &mut [u16],
-    from: usize,
-    count: usize,
-) -> Mark
-    requires { Room text.now at from values.old × (most ≤ largest_number) }
-    ensures { Stores (fields_of most count (drop at text.now)) text.now at from values.old values.new result }
+// The row at the front: its letter, a field a pixel, and the line feed.
+#[tactic(auto, unfolding(crate::specs::Reading::line_of))]
+fn read_row<'a>(text: &'a [u8], width: usize, pixels: &mut [Pixel]) -> Option<&'a [u8]>
+    requires { length text.now ≤ 2 * length pixels.old }
+    ensures { Stores (line_of 82 255 width text.now) pixels.old pixels.new result }
 {
-    let mut next = at;
-    let mut i: usize = 0;
-    while i < count {
-        let field = read_field(text, next, most);
-        if !field.found {
-            return no_mark();
-        }
-        values[from + i] = field.value as u16;
-        next = field.next;
-        i += 1;
-    }
-    Mark { found: true, next }
+    let fields = behind(text, b'R')?;
+    let end = read_fields(fields, width, pixels)?;
+    behind(end, b'\n')
 }
 
-// The line at `at`: its letter, `count` fields of at most `most`, and the line feed. The numbers are stored from entry `from` on.
-fn read_line(
-    text: &[u8],
-    at: usize,
-    letter: u8,
-    most: usize,
-    values: &mut [u16],
-    from: usize,
-    count: usize,
-) -> Mark
-    requires { Room text.now at from values.old × (most ≤ largest_number) }
-    ensures { Stores (line_of letter most count (drop at text.now)) text.now at from values.old values.new result }
-{
-    if !is_at(text, at, letter) {
-        return no_mark();
-    }
-    let fields = read_fields(text, at + 1, most, values, from, count);
-    if !fields.found {
-        return no_mark();
-    }
-    let end = fields.next;
-    if !is_at(text, end, b'\n') {
-        return no_mark();
-    }
-    Mark {
-        found: true,
-        next: end + 1,
-    }
-}
-
-// The first two lines of the text: direction number, width and height, stored at the front of `values`.
-pub(crate) fn read_head(text: &[u8], values: &mut [u16]) -> Mark
-    requires { length text.now ≤ 2 * length values.old }
-    ensures { Stores (head_of text.now) text.now 0 0 values.old values.new result }
-{
-    let first = read_line(text, 0, b'D', LARGEST_NUMBER, values, 0, 1);
-    if !first.found {
-        return no_mark();
-    }
-    read_line(text, first.next, b'F', LARGEST_NUMBER, values, 1, 2)
-}
-
-// The rows from `at` to the text's end, their pixels stored behind direction, width and height.
+// The rows to the text's end, their pixels stored at the front of `pixels`.
 pub(crate) fn read_rows(
     text: &[u8],
-    at: usize,
     width: usize,
     height: usize,
-    values: &mut [u16],
-) -> Mark
-    requires { Room text.now at 3 values.old }
-    ensures { Stores (rows_of height width (drop at text.now)) text.now at 3 values.old values.new result }
+    pixels: &mut [Pixel],
+) -> Option<()>
+    requires { length text.now ≤ 2 * length pixels.old }
+    ensures { Rows (rows_of height width text.now) pixels.old pixels.new result }
 {
-    let mut next = at;
-    let mut count: usize = 0;
-    let mut row: usize = 0;
-    while row < height {
-        let line = read_line(text, next, b'R', 255, values, 3 + count, width);
-        if !line.found {
-            return no_mark();
-        }
-        next = line.next;
-        count += width;
-        row += 1;
+    let mut rest = text;
+    for row in 0..height {
+        rest = read_row(rest, width, &mut pixels[row * width..])?;
     }
-    if next < text.len() {
-        return no_mark();
-    }
-    Mark { found: true, next }
+    if rest.is_empty() { Some(()) } else { None }
 }

@@ -1,46 +1,32 @@
 // What the program stretches prints of a line, and what both programs print of a refusal.
-ghost use Rattle.std.specs.Prelude.{◌≡◌, ◌+◌, ◌*◌, ◌≤◌, ◌<◌, ◌^◌, nat_abs, length, take};
+ghost use Rattle.std.specs.Prelude.{◌≡◌, ◌*◌, ◌≤◌, nat_abs, length, take};
 ghost use Rattle.answer.specs.Limits.{longest};
 ghost use Rattle.bright.specs.Stretches.{stretches};
 ghost use Rattle.bright.specs.Nesting.{nested, records, enclosers_of};
-ghost use Rattle.text.specs.Lines.{Puts};
+ghost use Rattle.text.specs.Lines.{Fits, Puts};
 ghost use Rattle.text.specs.Stretches.{signed_text, title_text, stretch_fields, stretches_text, PrintsLine, PrintsRefusal};
 
 use crate::Pixel;
-use crate::decimal::put_number;
-use crate::lines::{line_bytes, put_byte, put_field, put_line};
+use crate::decimal::{put_byte, put_number};
+use crate::lines::{put_field, put_line};
 use answer::LONGEST;
 use stretch::{Stretch, begin, enclosers, next};
 
 // The bytes of the open runs of a reading, and those that `enclosers` asks for: four a pixel of the longest line.
 const RUNS: usize = 4 * LONGEST;
 
-// The size of a number, without its sign. The smallest number has no negation that fits, so 1 is added before the sign is turned and again after.
-fn size(z: i64) -> u64
-    ensures { result ≡ nat_abs z }
-{
-    if z < 0 {
-        return (-1 - z) as u64 + 1;
-    }
-    z as u64
-}
-
-// Writes a line number at `at`. Hands back where the next byte goes.
+// Writes a line number at `at`, as `put_byte` does. Hands back where the next byte goes.
 fn put_signed(dst: &mut [u8], at: usize, z: i64) -> usize
-    requires { at + length (signed_text z) ≤ length dst.old }
+    requires { Fits dst.old at (length (signed_text z)) }
     ensures { Puts dst.old at (signed_text z) dst.new result }
 {
-    let n = size(z);
-    if z < 0 {
-        let digits = put_byte(dst, at, b'-');
-        return put_number(dst, digits, n);
-    }
-    put_number(dst, at, n)
+    let digits = if z < 0 { put_byte(dst, at, b'-') } else { at };
+    put_number(dst, digits, z.unsigned_abs())
 }
 
-// Writes the `L` line at the front. Hands back where the next one goes.
+// Writes the `L` line at the front, as `put_byte` does. Hands back where the next one goes.
 fn put_title(dst: &mut [u8], z: i64, pixels: usize) -> usize
-    requires { length (title_text z pixels) ≤ length dst.old }
+    requires { Fits dst.old 0 (length (title_text z pixels)) }
     ensures { Puts dst.old 0 (title_text z pixels) dst.new result }
 {
     let letter = put_byte(dst, 0, b'L');
@@ -50,58 +36,15 @@ fn put_title(dst: &mut [u8], z: i64, pixels: usize) -> usize
     put_byte(dst, end, b'\n')
 }
 
-// The bytes of the `L` line: those of a line with both numbers, and one for a minus sign.
-fn title_bytes(z: i64, pixels: usize) -> usize
-    ensures { result ≡ length (title_text z pixels) }
-{
-    let fields = [size(z), pixels as u64];
-    let bytes = line_bytes(&fields);
-    if z < 0 {
-        return bytes + 1;
-    }
-    bytes
-}
-
-fn wide(x: u16) -> u64
-    ensures { (result ≡ x) × (result < 2 ^ 16) }
-{
-    x as u64
-}
-
 // The fields of a `Z` line: the four numbers of a stretch, and the place of its encloser.
 fn stretch_fields(s: Stretch, encloser: u16) -> [u64; 5]
     ensures { result ≡ stretch_fields (nested s encloser) }
 {
-    [
-        wide(s.start),
-        wide(s.end),
-        wide(s.level),
-        wide(s.base),
-        wide(encloser),
-    ]
+    [s.start, s.end, s.level, s.base, encloser].map(u64::from)
 }
 
-// The bytes of the `Z` lines of a line. The places of the enclosers, in the order of the list, stand at the front of `places`; the reading has its open runs in `runs`.
-fn stretches_bytes(line: &[Pixel], places: &[u16], runs: &mut [u8]) -> usize
-    requires { (length line.now ≤ longest) × (4 * length line.now ≤ length runs.old) × (take (length (stretches line.now)) places.now ≡ enclosers_of (stretches line.now)) }
-    ensures { result ≡ length (stretches_text (records (stretches line.now))) }
-{
-    let mut bytes: usize = 0;
-    let mut bookmark = begin();
-    let mut i: usize = 0;
-    loop {
-        let step = next(line, runs, bookmark);
-        if !step.found {
-            return bytes;
-        }
-        let fields = stretch_fields(step.stretch, places[i]);
-        bytes += line_bytes(&fields);
-        bookmark = step.bookmark;
-        i += 1;
-    }
-}
-
-// Writes the `Z` lines of a line at `at`. Hands back where the next byte goes. `places` and `runs` are as for `stretches_bytes`.
+// Writes the `Z` lines of a line at `at`, as `put_byte` does. Hands back where the next byte goes. The places of the enclosers, in the order of the list, stand
+// at the front of `places`; the reading has its open runs in `runs`.
 fn put_stretches(
     dst: &mut [u8],
     at: usize,
@@ -109,22 +52,19 @@ fn put_stretches(
     places: &[u16],
     runs: &mut [u8],
 ) -> usize
-    requires { (length line.now ≤ longest) × (4 * length line.now ≤ length runs.old) × (take (length (stretches line.now)) places.now ≡ enclosers_of (stretches line.now)) × (at + length (stretches_text (records (stretches line.now))) ≤ length dst.old) }
+    requires { (length line.now ≤ longest) × (4 * length line.now ≤ length runs.old) × (take (length (stretches line.now)) places.now ≡ enclosers_of (stretches line.now)) × Fits dst.old at (length (stretches_text (records (stretches line.now)))) }
     ensures { Puts dst.old at (stretches_text (records (stretches line.now))) dst.new result }
 {
     let mut end = at;
     let mut bookmark = begin();
-    let mut i: usize = 0;
-    loop {
-        let step = next(line, runs, bookmark);
-        if !step.found {
+    for encloser in places {
+        let Some(step) = next(line, runs, bookmark) else {
             return end;
-        }
-        let fields = stretch_fields(step.stretch, places[i]);
-        end = put_line(dst, end, b'Z', &fields);
+        };
+        end = put_line(dst, end, b'Z', &stretch_fields(step.stretch, *encloser));
         bookmark = step.bookmark;
-        i += 1;
     }
+    end
 }
 
 // Writes what the program stretches prints of the line number z, its `L` line and its `Z` lines, to the front of dst. Hands back its bytes.
@@ -140,9 +80,10 @@ pub fn line_text(z: i64, line: &[Pixel], dst: &mut [u8]) -> usize
     let mut runs = [0u8; RUNS];
     // Places and scratch are enough for every line that comes so far, so they are all found.
     enclosers(line, &mut places, &mut runs);
-    let title = title_bytes(z, line.len());
-    let bytes = title + stretches_bytes(line, &places, &mut runs);
-    if dst.len() < bytes {
+    let title = put_title(&mut [], z, line.len());
+    let bytes = put_stretches(&mut [], title, line, &places, &mut runs);
+    let short = dst.len() < bytes;
+    if short {
         return 0;
     }
     let end = put_title(dst, z, line.len());
@@ -153,9 +94,8 @@ pub fn line_text(z: i64, line: &[Pixel], dst: &mut [u8]) -> usize
 pub fn refusal_text(number: u64, dst: &mut [u8]) -> usize
     ensures { PrintsRefusal number dst.old dst.new result }
 {
-    let fields = [number];
-    if line_bytes(&fields) <= dst.len() {
-        return put_line(dst, 0, b'E', &fields);
+    if dst.len() < put_line(&mut [], 0, b'E', &[number]) {
+        return 0;
     }
-    0
+    put_line(dst, 0, b'E', &[number])
 }

@@ -27,6 +27,7 @@ use Rattle.line.proofs.Laws as line
 use Rattle.frame.specs.declared.direction.Direction.{Direction}
 use Rattle.frame.specs.declared.shape.Shape.{Shape}
 use Rattle.frame.specs.Lines.{pixels, place, line_read}
+use Rattle.std.specs.Prelude.{Option, MatchOption}
 use Rattle.gathering.specs.Gathering.{Gathers}
 use Rattle.gathering.specs.Scattering.{stored, Scatters}
 use Rattle.gathering.specs.Rows.{LendsRow}
@@ -45,7 +46,7 @@ use Rattle.sizes.specs.Sums.{line_sums, frame_sums}
 use Rattle.sizes.specs.Line.{SumsLine}
 use Rattle.sizes.specs.Frame.{SumsFrame}
 use Rattle.sizes.specs.Rose.{Roses}
-use Rattle.text.specs.declared.input.Input.{Input}
+use Rattle.text.specs.Inputs.{Outcome}
 use Rattle.text.specs.Inputs.{rows_in, ReadsInput}
 use Rattle.text.specs.Stretches.{Prints, PrintsLine, PrintsRefusal}
 use Rattle.text.specs.Sums.{sums_text, WritesSums}
@@ -102,9 +103,9 @@ pub list-once : {f : List ℕ} {table table₁ table₂ : List Nested} {t t₁ t
     → ListsLine f table table₂ t t₂ a₂ → (a₁ ≡ a₂) × (table₁ ≡ table₂)
 list-once = lists_once
 
--- what a step hands back is settled, and so is what comes from there; the bytes of scratch are not
-pub next-once : {run : Layout} {f t : List ℕ} {p : Bookmark} {t₁ t₂ : List ℕ} {r₁ r₂ : Step} → Follows run f t p t₁ r₁ → Follows run f t p t₂ r₂
-    → (r₁ ≡ r₂) × (coming run f t₁ r₁.bookmark ≡ coming run f t₂ r₂.bookmark)
+-- what a step hands back is settled, and so is what comes from there; the bytes of scratch only where no stretch is found
+pub next-once : {run : Layout} {f t : List ℕ} {p : Bookmark} {t₁ t₂ : List ℕ} {r₁ r₂ : Option Step} → Follows run f t p t₁ r₁ → Follows run f t p t₂ r₂
+    → (r₁ ≡ r₂) × MatchOption r₁ (t₁ ≡ t₂) (λ (s : Step). coming run f t₁ s.bookmark ≡ coming run f t₂ s.bookmark)
 next-once = follows-once
 
 pub enclosers_once : {f p p₁ p₂ t t₁ t₂ : List ℕ} {r₁ r₂ : ℕ} → NestsLine f p p₁ t t₁ r₁ → NestsLine f p p₂ t t₂ r₂ → (r₁ ≡ r₂) × (p₁ ≡ p₂)
@@ -134,10 +135,10 @@ sums-text-once {d} {s} {dst} {a₁ = a₁} {a₂ = a₂} p q =
     let e : a₁ ≡ a₂ = p.answers ∙ sym q.answers in
     (e, alike (front (sums_text d s) dst) dst e p.written q.written)
 
-pub read_input_once : {s dst dst₁ dst₂ : List ℕ} {r₁ r₂ : Input} → ReadsInput s dst dst₁ r₁ → ReadsInput s dst dst₂ r₂ → (r₁ ≡ r₂) × (dst₁ ≡ dst₂)
+pub read_input_once : {s dst dst₁ dst₂ : List ℕ} {r₁ r₂ : Outcome} → ReadsInput s dst dst₁ r₁ → ReadsInput s dst dst₂ r₂ → (r₁ ≡ r₂) × (dst₁ ≡ dst₂)
 read_input_once {s} {dst} {r₁ = r₁} {r₂ = r₂} p q =
     let e : r₁ ≡ r₂ = p.reads ∙ sym q.reads in
-    (e, alike (front (rows_in s).values dst) dst (ap (λ (r : Input). r.answer) e) p.written q.written)
+    (e, alike (front (rows_in s).values dst) dst (ap (λ (r : Outcome). r.answer) e) p.written q.written)
 
 prints_once : {ok : Bool} {t dst dst₁ dst₂ : List ℕ} {n₁ n₂ : ℕ} → Prints ok t dst dst₁ n₁ → Prints ok t dst dst₂ n₂ → (n₁ ≡ n₂) × (dst₁ ≡ dst₂)
 prints_once p q = (p.bytes ∙ sym q.bytes, p.written ∙ sym q.written)

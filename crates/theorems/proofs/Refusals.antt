@@ -44,7 +44,7 @@ use Rattle.sizes.specs.Frame.{frame_rules, SumsFrame}
 use Rattle.sizes.specs.Rose.{rose_rules, refused_rose, Roses}
 use Rattle.sizes.specs.declared.summary.Summary.{Summary}
 use Rattle.sizes.specs.Summary.{summary_rules, refused_by, summary_of}
-use Rattle.text.specs.declared.input.Input.{Input}
+use Rattle.text.specs.Inputs.{Outcome}
 use Rattle.text.specs.Inputs.{direction_in, width_in, height_in, input_rules, input_of, ReadsInput}
 use Rattle.text.specs.Sums.{sums_text, text_rules, WritesSums}
 use Rattle.theorems.specs.Settled.{FirstBroken, Settled}
@@ -195,12 +195,12 @@ pub sums-text-settled : {d : ℕ} {s dst dst' : List ℕ} {a : Answer} → Write
 sums-text-settled {dst = dst} {a = a} p = settled _ _ refl p.answers (λ r. p.written ∙ after-refused a _ dst r)
 
 -- rules 9, 1, 2, 9 and 6; a refused input has no direction, width or height
-pub read_input_settled : {s dst dst' : List ℕ} {r : Input} → ReadsInput s dst dst' r
+pub read_input_settled : {s dst dst' : List ℕ} {r : Outcome} → ReadsInput s dst dst' r
     → Settled (input_rules s (length dst)) 0 r.answer ((dst' ≡ dst) × (r ≡ record { answer = r.answer; direction = 0; width = 0; height = 0 }))
 read_input_settled {s} {dst} {dst'} {r} p =
     let a = answer (input_rules s (length dst)) 0 in
-    let e : r.answer ≡ a = ap (λ (r : Input). r.answer) p.reads in
-    let blank : Answer → Input = λ (a : Answer). record { answer = a; direction = 0; width = 0; height = 0 } in
+    let e : r.answer ≡ a = ap (λ (r : Outcome). r.answer) p.reads in
+    let blank : Answer → Outcome = λ (a : Answer). record { answer = a; direction = 0; width = 0; height = 0 } in
     let none : (a.number ≡ 0 → ⊥) → input_of s (length dst) ≡ blank a =
     λ no-work. rw (after-refused a (direction_in s) 0 no-work, after-refused a (width_in s) 0 no-work, after-refused a (height_in s) 0 no-work) in
     settled _ _ refl e (λ no-work. (p.written ∙ after-refused r.answer _ dst no-work, p.reads ∙ none (rw e at no-work) ∙ ap blank (sym e)))

@@ -47,9 +47,9 @@ use Rattle.sizes.specs.Rose.{rose_rules, rose_of, refused_rose, Roses}
 use Rattle.sizes.specs.declared.summary.Summary.{Summary}
 use Rattle.sizes.specs.Summary.{bins_of, rest_of, weighted, exactest, float, quotient, summary_rules, summary_of}
 use Rattle.sizes.proofs.Bins.{sums-bin, sums-rest, sum-falls, line-total}
-use Rattle.sizes.proofs.Calls.{frame-fits}
+use Rattle.sizes.proofs.Calls.{frame-viewed}
 use Rattle.sizes.proofs.Gathered.{frame-total}
-use Rattle.sizes.proofs.Rows.{rose_fits, sum_never_largest}
+use Rattle.sizes.proofs.Rows.{rose_framed, sum_never_largest}
 use Rattle.sizes.proofs.Summaries.{float_back, quotient_rounded}
 use Rattle.theorems.proofs.Refusals.{rose_settled, summary_settled}
 use Rattle.theorems.proofs.Openings.{frame-lines}
@@ -106,7 +106,7 @@ module _ {f : List ℕ} {sh : Shape} {d : Direction} {sums sums' t t' : List ℕ
       frame-rest ∙ ap (pixel_sum f sh d) one ∙ ap total (table_same _ _ (line_count sh d) (λ u _. rest-stretches (line_at f sh d u) (k - 1)))
 
   pub frame-whole : total sums' ≡ frame_light f sh
-  frame-whole = ap total frame-filled ∙ frame-total f sh d (length sums - 1) (frame-fits sh d (length sums) (length f) (length t) p.answers z).0.ok
+  frame-whole = ap total frame-filled ∙ frame-total f sh d (length sums - 1) (frame-viewed sh d (length sums) (length f) (length t) p.answers z).ok
 
 -- 'The sum for a length is the total of the opened pixels.': of a frame, those that `open_frame` leaves for that direction and length
 pub frame-sum-opened : {f : List ℕ} {sh : Shape} {d : Direction} {L : ℕ} {g g' t t' : List ℕ} {a : Answer} → OpensFrame f sh d L g g' t t' a → a.number ≡ 0
@@ -128,7 +128,7 @@ module _ {f : List ℕ} {sh : Shape} {t t' : List ℕ} {r : List (List ℕ)} (p 
       ∙ get_d_table [] (λ (n : ℕ). frame_sums f sh (numbered_of n) 32) 16 n h
 
   accepted : (n : ℕ) → n < 16 → Accepted sh (numbered_of n)
-  accepted n h = record { frame = (rose_fits sh (length f) (length t) refl zero_number).frame; direction = numbered-accepted n h }
+  accepted n h = record { frame = rose_framed sh (length f) (length t) zero_number; direction = numbered-accepted n h }
 
   pub rose_whole : (n : ℕ) → n < 16 → total (get_or r n []) ≡ frame_light f sh
   rose_whole n h =

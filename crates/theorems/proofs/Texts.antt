@@ -34,7 +34,7 @@ use Rattle.frame.specs.Lines.{line_read, lines_of, pixels}
 use Rattle.gathering.specs.Gathering.{Gathers}
 use Rattle.sizes.specs.Sums.{frame_sums}
 use Rattle.sizes.specs.Frame.{SumsFrame}
-use Rattle.text.specs.declared.input.Input.{Input}
+use Rattle.text.specs.Inputs.{Outcome}
 use Rattle.text.specs.Decimal.{digits, decimal}
 use Rattle.text.specs.Lines.{fields_text}
 use Rattle.text.specs.Reading.{Values}
@@ -109,16 +109,16 @@ refusal_nine = refl
 
 -- ---- the input
 
-module _ {s dst dst' : List ℕ} {r : Input} (p : ReadsInput s dst dst' r) where
+module _ {s dst dst' : List ℕ} {r : Outcome} (p : ReadsInput s dst dst' r) where
   -- a text that the call takes is one that the document allows, and the text of the frame that is handed back
   pub input_given : r.answer.number ≡ 0 → (ps : List ℕ) × Given s r.direction r.width r.height ps × (dst' ≡ front ps dst)
   input_given z =
       let a = answer (input_rules s (length dst)) 0 in
       let k = (read_input_settled p).only_if z in
-      let zero_is : a.number ≡ 0 = ap (λ (r : Input). r.answer.number) (sym p.reads) ∙ z in
-      let d-is : r.direction ≡ direction_in s = ap (λ (r : Input). r.direction) p.reads ∙ after-done a (direction_in s) 0 zero_is in
-      let w-is : r.width ≡ width_in s = ap (λ (r : Input). r.width) p.reads ∙ after-done a (width_in s) 0 zero_is in
-      let h-is : r.height ≡ height_in s = ap (λ (r : Input). r.height) p.reads ∙ after-done a (height_in s) 0 zero_is in
+      let zero_is : a.number ≡ 0 = ap (λ (r : Outcome). r.answer.number) (sym p.reads) ∙ z in
+      let d-is : r.direction ≡ direction_in s = ap (λ (r : Outcome). r.direction) p.reads ∙ after-done a (direction_in s) 0 zero_is in
+      let w-is : r.width ≡ width_in s = ap (λ (r : Outcome). r.width) p.reads ∙ after-done a (width_in s) 0 zero_is in
+      let h-is : r.height ≡ height_in s = ap (λ (r : Outcome). r.height) p.reads ∙ after-done a (height_in s) 0 zero_is in
       let found : (rows_in s).found ≡ true = not-false (rows_in s).found k.1.1.1.1.1.0 in
       let given : Given s (direction_in s) (width_in s) (height_in s) (rows_in s).values =
       record {
@@ -132,7 +132,7 @@ module _ {s dst dst' : List ℕ} {r : Input} (p : ReadsInput s dst dst' r) where
       } in
       ((rows_in s).values, rw (d-is, w-is, h-is) given, p.written ∙ after-done r.answer (front (rows_in s).values dst) dst z)
 
-read_back : (d w h : ℕ) (ps : List ℕ) {dst dst' : List ℕ} {r : Input} → ReadsInput (frame_text d w h ps) dst dst' r → Given (frame_text d w h ps) d w h ps → w * h ≤ length dst
+read_back : (d w h : ℕ) (ps : List ℕ) {dst dst' : List ℕ} {r : Outcome} → ReadsInput (frame_text d w h ps) dst dst' r → Given (frame_text d w h ps) d w h ps → w * h ≤ length dst
     → (r ≡ record { answer = done 0; direction = d; width = w; height = h }) × (dst' ≡ front ps dst)
 read_back d w h ps {dst} {dst'} {r} p g room =
     let s = frame_text d w h ps in
@@ -142,13 +142,13 @@ read_back d w h ps {dst} {dst'} {r} p g room =
     let e = text-accepted d w h ps (length dst) g.numbered wide high g.many dim g.size room in
     let head = head_found d w h ps (omega (arith, g.numbered)) (omega (arith, g.wide.1)) (omega (arith, g.high.1)) in
     let rows = frame-written d w h ps (omega (arith, g.numbered)) (omega (arith, g.wide.1)) (omega (arith, g.high.1)) g.many dim in
-    let handed : Answer → Values → Input =
+    let handed : Answer → Values → Outcome =
     λ (a : Answer) (v : Values). record { answer = a; direction = after a (get_or v.values 0 0) 0; width = after a (get_or v.values 1 0) 0; height = after a (get_or v.values 2 0) 0 } in
     let is : r ≡ record { answer = done 0; direction = d; width = w; height = h } = p.reads ∙ ap₂ handed e head in
-    let z : r.answer.number ≡ 0 = ap (λ (r : Input). r.answer.number) is in
+    let z : r.answer.number ≡ 0 = ap (λ (r : Outcome). r.answer.number) is in
     (is, p.written ∙ after-done r.answer (front (rows_in s).values dst) dst z ∙ ap (λ (v : Values). front v.values dst) rows)
 
-module _ {s dst dst' : List ℕ} {r : Input} {d w h : ℕ} {ps : List ℕ} where
+module _ {s dst dst' : List ℕ} {r : Outcome} {d w h : ℕ} {ps : List ℕ} where
   -- an input that the document allows is read, given room for its pixels, and the frame is the one whose text it is
   pub given_input : ReadsInput s dst dst' r → Given s d w h ps → w * h ≤ length dst
       → (r ≡ record { answer = done 0; direction = d; width = w; height = h }) × (dst' ≡ front ps dst)
@@ -184,18 +184,18 @@ unfolding tables.each extremes.least extremes.greatest extremes.total windows.op
 example_bins rest = refl
 
 -- with four entries for the sums: 'K fixed at 3'
-module _ {px px' sums sums' t t' out out' : List ℕ} {r : Input} {b a : Answer} where
+module _ {px px' sums sums' t t' out out' : List ℕ} {r : Outcome} {b a : Answer} where
   pub example_sums_lem : ReadsInput example_input px px' r → 5 ≤ length px → length sums ≡ 4
       → SumsFrame px' (shape r.width r.height r.width) (numbered_of r.direction) sums sums' t t' b → b.number ≡ 0
       → WritesSums r.direction sums' out out' a → a.number ≡ 0 → (out' ≡ front example_sums out) × (a.figure ≡ length example_sums)
   example_sums_lem p room four q y w z =
       let read = given_input p example_given room in
-      let handed : Input → List ℕ → ℕ → List ℕ =
-      λ (r : Input) (f : List ℕ) (n : ℕ). frame_sums f (shape r.width r.height r.width) (numbered_of r.direction) (n - 1) in
+      let handed : Outcome → List ℕ → ℕ → List ℕ =
+      λ (r : Outcome) (f : List ℕ) (n : ℕ). frame_sums f (shape r.width r.height r.width) (numbered_of r.direction) (n - 1) in
       let filled : sums' ≡ handed r px' (length sums) = q.written ∙ after-done b (handed r px' (length sums)) sums y in
       let bins : sums' ≡ 2 ∷ 4 ∷ 3 ∷ 10 ∷ [] =
-      filled ∙ ap (λ (n : ℕ). handed r px' n) four ∙ ap₂ (λ (r : Input) (f : List ℕ). handed r f 4) read.0 read.1 ∙ example_bins (drop 5 px) in
-      let writes : WritesSums 0 sums' out out' a = subst (λ (r : Input). WritesSums r.direction sums' out out' a) read.0 w in
+      filled ∙ ap (λ (n : ℕ). handed r px' n) four ∙ ap₂ (λ (r : Outcome) (f : List ℕ). handed r f 4) read.0 read.1 ∙ example_bins (drop 5 px) in
+      let writes : WritesSums 0 sums' out out' a = subst (λ (r : Outcome). WritesSums r.direction sums' out out' a) read.0 w in
       example_sums-text (subst (λ (s : List ℕ). WritesSums 0 s out out' a) bins writes) z
 
 -- the frame of the example has one line, number 0
@@ -211,7 +211,7 @@ example_line : (rest : List ℕ) → line_read (line ++ rest) (shape 5 1 5) (num
 unfolding tables.each lines.r
 example_line rest = refl
 
-module _ {px px' buf buf' out out' : List ℕ} {r : Input} {b : Answer} {n : ℕ} where
+module _ {px px' buf buf' out out' : List ℕ} {r : Outcome} {b : Answer} {n : ℕ} where
   pub example_stretches_lem : ReadsInput example_input px px' r → 5 ≤ length px
       → Gathers px' (shape r.width r.height r.width) (numbered_of r.direction) (pos 0) buf buf' b → b.number ≡ 0
       → PrintsLine (pos 0) (take b.figure buf') out out' n → length example_stretches ≤ length out
@@ -219,7 +219,7 @@ module _ {px px' buf buf' out out' : List ℕ} {r : Input} {b : Answer} {n : ℕ
   example_stretches_lem p room q y w fit =
       let read = given_input p example_given room in
       let of-frame : Gathers px' (shape 5 1 5) (numbered_of 0) (pos 0) buf buf' b =
-      subst (λ (r : Input). Gathers px' (shape r.width r.height r.width) (numbered_of r.direction) (pos 0) buf buf' b) read.0 q in
+      subst (λ (r : Outcome). Gathers px' (shape r.width r.height r.width) (numbered_of r.direction) (pos 0) buf buf' b) read.0 q in
       let g : Gathers (line ++ drop 5 px) (shape 5 1 5) (numbered_of 0) (pos 0) buf buf' b =
       subst (λ (f : List ℕ). Gathers f (shape 5 1 5) (numbered_of 0) (pos 0) buf buf' b) read.1 of-frame in
       let s = gather_settled g in

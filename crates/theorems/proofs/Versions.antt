@@ -28,6 +28,7 @@ use Prim.Native.Nat.{ℕ, ◌+◌, ◌-◌, ◌*◌, ◌^◌}
 use native.Mathlib.Omega.{arith}
 use lib.IntN.{pos}
 use lib.ListN.{get_or, take, drop, replicate}
+use Rattle.std.specs.Prelude.{Option, IsSomeAnd}
 use Rattle.lists.specs.Tables as tables
 use Rattle.lists.specs.Extremes as extremes
 use Rattle.lists.specs.Stores.{front}
@@ -68,7 +69,7 @@ use Rattle.sizes.specs.Frame.{SumsFrame}
 use Rattle.sizes.specs.Rose.{rose_rules, refused_rose, Roses}
 use Rattle.sizes.specs.declared.summary.Summary.{Summary}
 use Rattle.sizes.specs.Summary.{weighted, summary_of}
-use Rattle.text.specs.declared.input.Input.{Input}
+use Rattle.text.specs.Inputs.{Outcome}
 use Rattle.text.specs.Decimal.{digits}
 use Rattle.text.specs.Lines.{fields_text}
 use Rattle.text.specs.Reading as reading
@@ -178,9 +179,9 @@ pub refusing_sums-text : {g' : List ℕ} {a : Answer} → WritesSums 0 (2 ∷ 4 
 unfolding tables.each sums_text fields_text digits
 refusing_sums-text p = answered p.answers refl
 
-pub refusing_read_input : {g' : List ℕ} {r : Input} → ReadsInput example_input nines g' r → Refused r.answer → ⊥
+pub refusing_read_input : {g' : List ℕ} {r : Outcome} → ReadsInput example_input nines g' r → Refused r.answer → ⊥
 unfolding head_of reading.number_on reading.number_of reading.field_of reading.fields_of reading.line_of reading.rows_of
-refusing_read_input p = answered (ap (λ (r : Input). r.answer) p.reads) refl
+refusing_read_input p = answered (ap (λ (r : Outcome). r.answer) p.reads) refl
 
 -- ---- 'an opening that is 0 everywhere, or that copies its source (demand 2); one that writes no pixel (demand 2)', of a line
 
@@ -327,9 +328,9 @@ module _ {t' : List ℕ} {r : ℕ} where
   enclosers_reversed p = differ 0 (λ e. omega arith) (nested-line p)
 
 -- after the first step the pixels 3 5 5 are read, and the run of 3 is open
-pub bookmark_invented : {t' : List ℕ} {r : Step} → (r.bookmark ≡ record { read = 3; depth = 1 } → ⊥) → Follows run8 line spare beginning t' r → ⊥
+pub bookmark_invented : {t' : List ℕ} {r : Option Step} → (IsSomeAnd r (λ (s : Step). s.bookmark ≡ record { read = 3; depth = 1 }) → ⊥) → Follows run8 line spare beginning t' r → ⊥
 unfolding stack_of step_from
-bookmark_invented another p = another (ap (λ (r : Step). r.bookmark) p.steps)
+bookmark_invented another p = another (rw p.steps refl)
 
 -- ---- 'Directions filed in order of arrival, or a tie given to the last' (a trap that no marked example holds)
 
@@ -429,8 +430,8 @@ module _ {t' : List ℕ} {a : Answer} where
 -- ---- 'Numbers are decimal without leading zero'
 
 -- the example's input with the direction number 00
-pub leading_zero : {g' : List ℕ} {r : Input} → ReadsInput (68 ∷ 9 ∷ 48 ∷ drop 2 example_input) nines g' r → r.answer.number ≡ 0 → ⊥
+pub leading_zero : {g' : List ℕ} {r : Outcome} → ReadsInput (68 ∷ 9 ∷ 48 ∷ drop 2 example_input) nines g' r → r.answer.number ≡ 0 → ⊥
 unfolding head_of reading.number_on reading.number_of reading.field_of reading.fields_of reading.line_of reading.rows_of
 leading_zero p z =
-    let nine : ◌≡◌ {A = ℕ} 0 9 = sym z ∙ ap (λ (r : Input). r.answer.number) p.reads in
+    let nine : ◌≡◌ {A = ℕ} 0 9 = sym z ∙ ap (λ (r : Outcome). r.answer.number) p.reads in
     omega (arith, nine)

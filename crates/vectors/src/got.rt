@@ -1,7 +1,8 @@
 // What a call handed back, in the four numbers that are printed of it.
 use answer::Answer;
+use std::fmt;
 
-#[derive(Clone, Copy)]
+#[derive(Clone, Copy, Default)]
 pub(crate) struct Got {
     pub number: u64,
     pub figure: u64,
@@ -9,50 +10,40 @@ pub(crate) struct Got {
     pub second: u64,
 }
 
-pub(crate) fn answered(a: Answer) -> Got {
+// Of a numbered call: number and figure of its answer.
+pub(crate) fn answered<A: Into<Answer>>(outcome: A) -> Got {
+    let Answer { number, figure } = outcome.into();
     Got {
-        number: a.number as u64,
-        figure: a.figure,
-        first: 0,
-        second: 0,
+        number: u64::from(number),
+        figure,
+        ..Got::default()
     }
 }
 
+// Of a call that counts, or looks a size up.
 pub(crate) fn counted(n: usize) -> Got {
     Got {
-        number: 0,
         figure: n as u64,
-        first: 0,
-        second: 0,
+        ..Got::default()
     }
 }
 
-// For a case whose call has no number here.
+// Of a case whose call has no number here.
 pub(crate) fn nothing() -> Got {
     Got {
         number: 99,
-        figure: 0,
-        first: 0,
-        second: 0,
+        ..Got::default()
     }
 }
 
-pub(crate) fn flag(b: bool) -> u64 {
-    if b { 1 } else { 0 }
-}
-
-// The size of a number, without its sign.
-fn size(z: i64) -> u64 {
-    if z < 0 {
-        return (-1 - z) as u64 + 1;
+impl fmt::Display for Got {
+    fn fmt<W: fmt::Write>(&self, f: &mut fmt::Formatter<W>) -> fmt::Result {
+        let Got {
+            number,
+            figure,
+            first,
+            second,
+        } = *self;
+        write!(f, "{number}\t{figure}\t{first:x}\t{second:x}")
     }
-    z as u64
-}
-
-// The 64 bits of a signed number: below 0 it counts from 2^64 down.
-pub(crate) fn bits(z: i64) -> u64 {
-    if z < 0 {
-        return std::num::wrapping_sub_u64(0, size(z));
-    }
-    size(z)
 }

@@ -1,6 +1,6 @@
--- At most as many tries as there may be, and the buffer keeps its length.
-use Rattle.std.proofs.Common.{◌-◌}
+-- A read that was interrupted took nothing.
+use Rattle.std.specs.Io.KnownBytes.{Keeps}
 use Rattle.console.proofs.read_once.Given as goal
 
-abbrev pub decreases-loop-tries : goal.decreases-loop-tries
-decreases-loop-tries g l = 1000000 - l.tries
+abbrev pub invariant-loop : goal.invariant-loop
+invariant-loop g l = Keeps (g.R.Read.remaining l.initial.stream) (g.R.Read.remaining l.stream)

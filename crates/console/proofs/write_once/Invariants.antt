@@ -1,6 +1,6 @@
--- At most as many tries as there may be.
-use Rattle.std.proofs.Common.{◌-◌}
+-- A write that was interrupted left nothing.
+use Rattle.std.specs.Io.KnownBytes.{Keeps}
 use Rattle.console.proofs.write_once.Given as goal
 
-abbrev pub decreases-loop-tries : goal.decreases-loop-tries
-decreases-loop-tries g l = 1000000 - l.tries
+abbrev pub invariant-loop : goal.invariant-loop
+invariant-loop g l = Keeps (g.W.Write.contents l.initial.stream) (g.W.Write.contents l.stream)

@@ -1,12 +1,9 @@
 -- The first i pixels of the line are at the front of the destination.
-use Prim.Native.Nat.{ℕ, ◌+◌, ◌-◌, ◌≤◌}
+use Prim.Native.Nat.{ℕ, ◌+◌}
 use lib.ListN.{get_or}
 use Rattle.lists.specs.Stores.{Filled}
 use Rattle.frame.specs.Sweep.{cell}
 use Rattle.gathering.proofs.gathering.copy_out.Given as goal
 
 abbrev pub invariant-loop-i : goal.invariant-loop-i
-invariant-loop-i l = (l.i ≤ l.count) × Filled l.initial.dst l.dst 0 l.i (λ (k : ℕ). get_or l.src (cell l.s l.u (l.from + k)) 0)
-
-abbrev pub decreases-loop-i : goal.decreases-loop-i
-decreases-loop-i l = l.count - l.i
+invariant-loop-i l = Filled l.initial.dst l.dst 0 l.i (λ (k : ℕ). get_or l.src (cell l.walk.sweep l.walk.track.index (l.walk.track.from + k)) 0)

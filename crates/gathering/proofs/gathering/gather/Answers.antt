@@ -1,72 +1,56 @@
 -- The rules, and then the walk along the line; what it copies is the line as read.
-use mathlib.Core.Path.{◌≡◌, sym, ap, ◌∙◌, subst}
-use mathlib.Core.Bool.{Bool}
+use mathlib.Core.Path.{◌≡◌, refl, ap, ◌∙◌}
 use mathlib.Core.List.{List}
 use Prim.Native.Nat.{ℕ}
 use lib.ListN.{length}
+use Rattle.std.proofs.Common.{rules}
 use mir.Facts.{to_z-of_z}
 use Rattle.lists.specs.Stores.{front}
-use Rattle.answer.specs.Rules.{answer}
-use Rattle.answer.proofs.Rules.{after-done, after-refused}
-use Rattle.frame.specs.declared.track.Track.{Track}
-use Rattle.frame.specs.Shape.{needed}
-use Rattle.frame.specs.Lines.{pixels}
 use Rattle.frame.specs.Span.{track_of}
-use Rattle.frame.specs.Sweep.{sweep_of, Accepted}
-use Rattle.frame.proofs.Shapes.{sweep_sane, sweep_reach, sweep_accepted, needed-by}
-use Rattle.frame.proofs.Tracks.{Tracks, track_line, track_values}
-use Rattle.gathering.specs.Gathering.{gather_rules}
-use Rattle.gathering.specs.Steps.{frame_line_rules}
-use Rattle.gathering.proofs.Calls.{line-answer, Fits, gather_fits}
-use Rattle.gathering.proofs.gathering.gather.Goals.{After-refusal-a, After-sweep_of, After-track_of-t, Else-a-ne0}
+use Rattle.gathering.proofs.Calls.{Fits, gather-says, gather_fits}
+use Rattle.gathering.proofs.Walks.{Walking, walking}
+use Rattle.gathering.proofs.gathering.gather.Goals.{After-sweep_of, After-track_of-track}
 use Rattle.gathering.proofs.gathering.gather.Goals as goal
 
 -- the track of the line's own number
-track-is : (c : After-track_of-t) → (let a = c.args in c.track_of-t.result ≡ track_of a.shape a.d a.line)
-track-is c = rw (to_z-of_z c.ranges.line) at c.track_of-t.ensures
+track-is : (c : After-track_of-track) → (let a = c.args in c.track_of-track.result ≡ track_of a.shape a.d a.line)
+track-is c = rw (to_z-of_z c.ranges.line) at c.track_of-track.ensures
 
--- the answer of the rules
-says : (c : After-refusal-a)
-    → (let a = c.args in
-    c.refusal-a.result ≡ answer (gather_rules a.shape a.d a.line (length a.src.now) (length a.dst.now)) (length (pixels a.shape a.d a.line)))
-says c =
+pub returns-in_err-count : goal.returns-in_err-count
+returns-in_err-count c =
     let a = c.args in
-    let n = c.track_of-t.result.count in
-    let count = ap (λ (t : Track). t.count) (track-is (goal.at.After-refusal-a c).After-track_of-t) in
-    let bytes : Accepted a.shape a.d → c.bytes.result ≡ needed a.shape = λ ok. c.bytes.ensures ∙ needed-by a.shape ok.frame in
-    c.refusal-a.ensures
-    ∙ ap (λ (framed : Bool). answer (frame_line_rules framed n (length a.src.now) c.bytes.result (length a.dst.now) n) n) c.is_frame.ensures
-    ∙ line-answer a.shape a.d a.line (length a.src.now) (needed a.shape) (length a.dst.now) (length (pixels a.shape a.d a.line)) n c.bytes.result n count (λ ok counted. (bytes ok, counted))
+    let track = track-is (goal.at.returns-in_err-count c).After-track_of-track in
+    let says = gather-says a.shape a.d a.line (length a.src.now) (length a.dst.now) c.track_of-track.result c.is_frame.result c.bytes.result track c.is_frame.ensures c.bytes.ensures c.in_err-count.ensures in
+    search rules
 
-pub returns-then-a-ne0 : goal.returns-then-a-ne0
-returns-then-a-ne0 c =
-    let a = c.refusal-a.result in
-    record { answers = says (goal.at.returns-then-a-ne0 c).After-refusal-a; written = sym (after-refused a _ _ c.if-a-ne0.true) }
-
-fits : (c : Else-a-ne0) → (let a = c.args in Fits a.shape a.d a.line (length a.src.now) (length a.dst.now))
-fits c = gather_fits _ _ _ _ _ (says (goal.at.Else-a-ne0 c).After-refusal-a) c.if-a-ne0.false
-
-tracked : (c : Else-a-ne0) → (let a = c.args in Tracks a.shape a.d a.line c.track_of-t.result)
-tracked c =
+fits : (c : After-sweep_of) → (let a = c.args in Fits a.shape a.d a.line (length a.src.now) (length a.dst.now))
+fits c =
     let a = c.args in
-    subst (Tracks a.shape a.d a.line) (sym (track-is (goal.at.Else-a-ne0 c).After-track_of-t)) (track_line a.shape a.d (fits c).ok a.line (fits c).there)
+    let track = track-is (goal.at.After-sweep_of c).After-track_of-track in
+    let says = gather-says a.shape a.d a.line (length a.src.now) (length a.dst.now) c.track_of-track.result c.is_frame.result c.bytes.result track c.is_frame.ensures c.bytes.ensures c.in_ok-count.ensures in
+    gather_fits a.shape a.d a.line (length a.src.now) (length a.dst.now) says refl
 
-sweep-is : (c : After-sweep_of) → (let a = c.args in c.sweep_of.result ≡ sweep_of a.shape a.d)
-sweep-is c = c.sweep_of.ensures ∙ sweep_accepted (fits (goal.at.After-sweep_of c).Else-a-ne0).ok
+walk : (c : After-sweep_of) → (let a = c.args in Walking a.shape a.d a.line c.sweep_of.result c.track_of-track.result)
+walk c =
+    let a = c.args in
+    let there = fits c in
+    walking a.shape a.d a.line c.sweep_of.result c.track_of-track.result there.ok there.there c.sweep_of.ensures (track-is (goal.at.After-sweep_of c).After-track_of-track)
+
+pub invariant_of-walk : goal.invariant_of-walk
+invariant_of-walk c =
+    let w = walk (goal.at.invariant_of-walk c).After-sweep_of in
+    record { sane = w.sane; spans = w.spans }
 
 pub copy_out-requires : goal.copy_out-requires
 copy_out-requires c =
-    let room = fits (goal.at.copy_out-requires c).Else-a-ne0 in
-    let t = tracked (goal.at.copy_out-requires c).Else-a-ne0 in
-    rw (sweep-is (goal.at.copy_out-requires c).After-sweep_of) (sweep_sane room.ok, sweep_reach room.ok _ room.whole, t.spans, rw t.counted room.room)
+    let w = walk (goal.at.copy_out-requires c).After-sweep_of in
+    let there = fits (goal.at.copy_out-requires c).After-sweep_of in
+    (w.reach _ there.whole, rw w.counted there.room)
 
 pub returns : goal.returns
 returns c =
     let a = c.args in
-    let t = tracked (goal.at.returns c).Else-a-ne0 in
-    let copied = rw (sweep-is (goal.at.returns c).After-sweep_of) at c.copy_out.ensures in
-    let done = after-done c.refusal-a.result _ _ c.if-a-ne0.false in
-    record {
-      answers = says (goal.at.returns c).After-refusal-a;
-      written = copied ∙ ap (λ (vs : List ℕ). front vs a.dst.now) (track_values t a.src.now) ∙ sym done;
-    }
+    let track = track-is (goal.at.returns c).After-track_of-track in
+    let says = gather-says a.shape a.d a.line (length a.src.now) (length a.dst.now) c.track_of-track.result c.is_frame.result c.bytes.result track c.is_frame.ensures c.bytes.ensures c.in_ok-count.ensures in
+    let values = (walk (goal.at.returns c).After-sweep_of).read a.src.now in
+    record { answers = says; written = c.copy_out.ensures ∙ ap (λ (vs : List ℕ). front vs a.dst.now) values }

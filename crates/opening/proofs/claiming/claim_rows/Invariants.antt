@@ -1,5 +1,5 @@
 -- The first y rows have claimed pixels.
-use Prim.Native.Nat.{ℕ, ◌+◌, ◌-◌, ◌*◌, ◌≤◌, max}
+use Prim.Native.Nat.{ℕ, ◌+◌, ◌*◌, max}
 use lib.ListN.{get_or}
 use Rattle.frame.specs.Shape.{shape}
 use Rattle.frame.specs.Painted.{Painted}
@@ -8,10 +8,6 @@ use Rattle.opening.proofs.claiming.claim_rows.Given as goal
 
 abbrev pub invariant-loop-y : goal.invariant-loop-y
 invariant-loop-y l =
-    (l.y ≤ l.shape.height)
-    × Painted (shape l.shape.width l.y l.shape.stride) (λ (x n : ℕ). max (get_or l.initial.dst (n * l.shape.stride + x) 0) (get_or l.new (n * l.shape.width + x) 0)) l.initial.dst l.dst
+    Painted (shape l.shape.width l.y l.shape.stride) (λ (x n : ℕ). max (get_or l.initial.dst (n * l.shape.stride + x) 0) (get_or l.new (n * l.shape.width + x) 0)) l.initial.dst l.dst
     × Painted (shape l.shape.width l.y l.shape.stride)
     (λ (x n : ℕ). claims (get_or l.initial.dst (n * l.shape.stride + x) 0) l.number (get_or l.new (n * l.shape.width + x) 0) (get_or l.initial.directions (n * l.shape.stride + x) 0)) l.initial.directions l.directions
-
-abbrev pub decreases-loop-y : goal.decreases-loop-y
-decreases-loop-y l = l.shape.height - l.y

@@ -1,4 +1,4 @@
--- A done answer says that all fits; a refused one that nothing was touched.
+-- A done answer says that all fits.
 use mathlib.Core.Path.{refl}
 use lib.ListN.{length as size}
 use Rattle.opening.specs.Steps.{Ready}
@@ -6,22 +6,11 @@ use Rattle.opening.proofs.Calls.{open_ready, pixels-ready, ready-pixels}
 use Rattle.opening.proofs.frames.open_frame.Goals.{After-pixels_for}
 use Rattle.opening.proofs.frames.open_frame.Goals as goal
 
-pub returns-then-a-ne0 : goal.returns-then-a-ne0
-returns-then-a-ne0 c =
-    record {
-      answers = c.refusal-a.ensures;
-      done = λ z. absurd (c.if-a-ne0.true z);
-      refused = λ z. (refl, refl);
-      scratch_length = refl;
-    }
-
 -- what a done answer says
-ready : (c : After-pixels_for)
-    → (let a = c.args in
-    Ready a.shape a.d a.length (size a.src.now) (size a.dst.now))
+ready : (c : After-pixels_for) → (let a = c.args in Ready a.shape a.d a.length (size a.src.now) (size a.dst.now))
 ready c =
     let a = c.args in
-    open_ready a.shape a.length (size a.src.now) (size a.dst.now) a.d (size a.scratch.now) c.refusal-a.ensures c.if-a-ne0.false
+    open_ready a.shape a.length (size a.src.now) (size a.dst.now) a.d (size a.scratch.now) c.in_ok-tested.ensures refl
 
 pub opened_into-requires : goal.opened_into-requires
 opened_into-requires c =
@@ -32,8 +21,8 @@ pub returns : goal.returns
 returns c =
     let count = pixels-ready _ _ _ _ _ c.pixels_for.ensures (ready (goal.at.returns c).After-pixels_for) in
     record {
-      answers = c.refusal-a.ensures;
+      answers = c.in_ok-tested.ensures;
       done = λ z. rw count at c.opened_into.ensures;
-      refused = λ z. absurd (z c.if-a-ne0.false);
+      refused = λ z. absurd (z refl);
       scratch_length = refl;
     }

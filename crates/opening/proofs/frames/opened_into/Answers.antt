@@ -1,43 +1,22 @@
 -- Along by rows, which are its lines; else the copy, opened where it stands.
-use mathlib.Core.Path.{◌≡◌, sym, ap, ◌∙◌}
-use Prim.Native.Nat.{ℕ}
+use mathlib.Core.Path.{◌≡◌, sym, ◌∙◌}
 use native.Mathlib.Nat.{le_of_lt}
-use native.Mathlib.Omega.{arith}
 use borrow.Author.Tests.{leb-false, le-leb}
 use lib.IntN.{nat_abs}
-use mir.Syntax.{w64}
-use mir.Val.{to_z}
-use Rattle.frame.specs.Shape.{shape}
+use Rattle.std.proofs.Common.{rules}
 use Rattle.frame.proofs.Paintings.{painted_as}
-use Rattle.frame.proofs.Shapes.{framed}
-use Rattle.frame.proofs.Signs.{back}
 use Rattle.opening.specs.Pixels.{opened_pixel}
 use Rattle.opening.proofs.Along.{along-opened}
 use Rattle.opening.proofs.Inplace.{opened_copy}
 use Rattle.opening.proofs.frames.opened_into.Goals as goal
 
-pub open_rows-requires : goal.open_rows-requires
-open_rows-requires c =
+pub returns-then-d-eq0 : goal.returns-then-d-eq0
+returns-then-d-eq0 c =
     let a = c.args in
     let pre = c.requires in
-    (pre.0, (framed (shape a.shape.width a.shape.height a.stride) pre.1.frame).past, pre.2, pre.3, pre.4)
-
-pub returns-then-q-eq0 : goal.returns-then-q-eq0
-returns-then-q-eq0 c =
-    let a = c.args in
-    let pre = c.requires in
-    let told = c.struct_told-1.given in
-    let flat : nat_abs a.d.q ≡ 0 =
-    ap nat_abs (sym (back a.d.q told.1.0.1)) ∙ ap (λ (n : ℕ). nat_abs (to_z w64 n)) c.if-q-eq0.true in
+    let flat : nat_abs a.d.q ≡ 0 = search rules in
     painted_as (opened_pixel a.src.now a.shape a.d a.length) c.open_rows.ensures
-    (λ x y h l.
-    sym (along-opened a.src.now a.shape a.d (record { frame = pre.0; direction = pre.1.direction }) flat pre.3 a.length x y h l))
-
-pub open_rows-requires-2 : goal.open_rows-requires-2
-open_rows-requires-2 c =
-    let a = c.args in
-    let pre = c.requires in
-    (pre.0, (framed (shape a.shape.width a.shape.height a.stride) pre.1.frame).past, omega arith, pre.3, pre.4)
+    (λ x y h l. sym (along-opened a.src.now a.shape a.d (record { frame = pre.0; direction = pre.1.direction }) flat pre.3 a.length x y h l))
 
 pub returns-then-goes_down : goal.returns-then-goes_down
 returns-then-goes_down c =
@@ -47,8 +26,8 @@ returns-then-goes_down c =
     opened_copy a.src.now a.shape a.d a.stride pre.0 pre.3 pre.1 c.open_rows-2.ensures a.length pre.2 down pre.4
     c.open_down.ensures
 
-pub returns : goal.returns
-returns c =
+pub returns-else-goes_down : goal.returns-else-goes_down
+returns-else-goes_down c =
     let a = c.args in
     let pre = c.requires in
     let flatter = sym c.goes_down.ensures ∙ c.if-goes_down.false in

@@ -5,6 +5,7 @@ use native.Mathlib.Nat.{mod-eq_of_lt}
 use lib.ListN.{length as size}
 use mir.Facts.{to_z-of_z}
 use Rattle.answer.specs.declared.Answer.{Answer}
+use Rattle.answer.specs.Refusals.{settled}
 use Rattle.frame.specs.declared.direction.Direction.{Direction}
 use Rattle.frame.specs.Direction.{dir}
 use Rattle.frame.specs.Shape.{shape}
@@ -20,9 +21,10 @@ returns c =
     let opened = c.open_frame in
     let dst = opened.new.dst in
     let scratch = opened.new.scratch in
-    let opens : OpensFrame a.src.now frame (dir a.p a.q) a.length a.dst.now dst a.scratch.now scratch opened.result =
-    subst (λ (d : Direction). OpensFrame a.src.now frame d a.length a.dst.now dst a.scratch.now scratch opened.result)
+    let answer = settled opened.result in
+    let opens : OpensFrame a.src.now frame (dir a.p a.q) a.length a.dst.now dst a.scratch.now scratch answer =
+    subst (λ (d : Direction). OpensFrame a.src.now frame d a.length a.dst.now dst a.scratch.now scratch answer)
     (ap₂ dir (to_z-of_z fits.p) (to_z-of_z fits.q)) opened.ensures in
     let small = open_figure frame a.length (size a.src.now) (size a.dst.now) (size a.scratch.now) (dir a.p a.q) in
     let fitting = mod-eq_of_lt (subst (λ (z : Answer). z.figure < 2 ^ 32) (sym opens.answers) small) in
-    record { a = opened.result; opens = opens; gives = c.one_number.ensures ∙ ap (λ (n : ℕ). opened.result.number * 2 ^ 32 + n) fitting }
+    record { a = answer; opens = opens; gives = c.one_number.ensures ∙ ap (λ (n : ℕ). answer.number * 2 ^ 32 + n) fitting }

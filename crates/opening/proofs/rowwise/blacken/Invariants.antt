@@ -1,11 +1,8 @@
 -- The first y rows are 0.
-use Prim.Native.Nat.{ℕ, ◌-◌, ◌≤◌}
+use Prim.Native.Nat.{ℕ}
 use Rattle.frame.specs.Shape.{shape}
 use Rattle.frame.specs.Painted.{Painted}
 use Rattle.opening.proofs.rowwise.blacken.Given as goal
 
 abbrev pub invariant-loop-y : goal.invariant-loop-y
-invariant-loop-y l = (l.y ≤ l.frame.height) × Painted (shape l.frame.width l.y l.frame.stride) (λ (x n : ℕ). 0) l.initial.dst l.dst
-
-abbrev pub decreases-loop-y : goal.decreases-loop-y
-decreases-loop-y l = l.frame.height - l.y
+invariant-loop-y l = Painted (shape l.frame.width l.y l.frame.stride) (λ (x n : ℕ). 0) l.initial.dst l.dst

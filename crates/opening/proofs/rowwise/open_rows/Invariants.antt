@@ -1,5 +1,5 @@
 -- The first y rows are painted.
-use Prim.Native.Nat.{ℕ, ◌-◌, ◌≤◌}
+use Prim.Native.Nat.{ℕ}
 use lib.ListN.{get_or}
 use Rattle.line.specs.Windows.{opened}
 use Rattle.frame.specs.Shape.{shape}
@@ -9,8 +9,4 @@ use Rattle.opening.proofs.rowwise.open_rows.Given as goal
 
 abbrev pub invariant-loop-y : goal.invariant-loop-y
 invariant-loop-y l =
-    (l.y ≤ l.frame.height)
-    × Painted (shape l.frame.width l.y l.stride) (λ (x n : ℕ). get_or (opened (row_of l.src l.frame n) l.length) x 0) l.initial.dst l.dst
-
-abbrev pub decreases-loop-y : goal.decreases-loop-y
-decreases-loop-y l = l.frame.height - l.y
+    Painted (shape l.frame.width l.y l.stride) (λ (x n : ℕ). get_or (opened (row_of l.src l.frame n) l.length) x 0) l.initial.dst l.dst

@@ -1,6 +1,6 @@
 -- At each pixel stands the greatest over the first n directions, and beside it the first of them that reaches it.
 use mathlib.Core.Path.{◌≡◌}
-use Prim.Native.Nat.{ℕ, ◌-◌, ◌≤◌}
+use Prim.Native.Nat.{ℕ}
 use lib.ListN.{length as size}
 use Rattle.lists.specs.Tables.{table}
 use Rattle.lists.specs.Extremes.{greatest}
@@ -10,11 +10,6 @@ use Rattle.opening.proofs.sixteen.highest_into.Given as goal
 
 abbrev pub invariant-loop-n : goal.invariant-loop-n
 invariant-loop-n l =
-    (1 ≤ l.n)
-    × (l.n ≤ 16)
-    × (size l.scratch ≡ size l.initial.scratch)
+    (size l.scratch ≡ size l.initial.scratch)
     × Painted l.shape (λ (x y : ℕ). greatest (table (in_direction l.src l.shape l.length x y) l.n)) l.initial.dst l.dst
     × Painted l.shape (λ (x y : ℕ). first_greatest (in_direction l.src l.shape l.length x y) l.n) l.initial.directions l.directions
-
-abbrev pub decreases-loop-n : goal.decreases-loop-n
-decreases-loop-n l = 16 - l.n

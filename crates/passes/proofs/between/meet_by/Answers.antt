@@ -1,15 +1,21 @@
--- The tests, and then the loop.
-use mathlib.Core.Path.{refl}
+-- Each pixel of the part is one of the slice.
+use mathlib.Core.Path.{ap₂}
+use Prim.Native.Nat.{ℕ, ◌+◌, ◌-◌}
+use native.Mathlib.Omega.{arith}
+use borrow.Author.Rules.{rules}
+use lib.ListN.{get_or}
+use Rattle.lists.proofs.Parts.{filled-put, part_at}
+use Rattle.passes.specs.Passes.{op, straight}
 use Rattle.passes.proofs.between.meet_by.Goals as goal
 
-pub returns-then-not-is_within : goal.returns-then-not-is_within
-returns-then-not-is_within c = record { done = λ there room. absurd (c.is_within.ensures.1 c.if-not-is_within.true there); none = λ unfit. refl }
-
-pub returns-then-not-is_within-2 : goal.returns-then-not-is_within-2
-returns-then-not-is_within-2 c = record { done = λ there room. absurd (c.is_within-2.ensures.1 c.if-not-is_within-2.true room); none = λ unfit. refl }
-
-pub by_row-requires : goal.by_row-requires
-by_row-requires c = (c.is_within.ensures.0 c.if-not-is_within.false, c.is_within-2.ensures.0 c.if-not-is_within-2.false)
-
-pub returns : goal.returns
-returns c = record { done = λ there room. c.by_row.ensures; none = λ unfit. absurd (unfit (c.is_within.ensures.0 c.if-not-is_within.false) (c.is_within-2.ensures.0 c.if-not-is_within-2.false)) }
+pub returns-then-is_within-2 : goal.returns-then-is_within-2
+returns-then-is_within-2 c =
+    let a = c.args in
+    record {
+      done = λ there room.
+          filled-put c.meet_row.ensures (search rules) (omega arith) room (λ (k : ℕ). op a.darker (get_or a.dst.now k 0) (straight a.from a.src.now (k - a.at)))
+          (λ k l h.
+          ap₂ (op a.darker) (part_at a.at (a.at + a.n) a.dst.now (k - a.at) k (omega arith) (omega arith))
+          (part_at a.from (a.from + a.n) a.src.now (k - a.at) (a.from + (k - a.at)) (omega arith) (omega arith)));
+      none = λ unfit. search rules;
+    }

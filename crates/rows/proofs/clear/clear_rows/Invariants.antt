@@ -1,10 +1,7 @@
 -- The rows from `from` up to i are 0.
-use Prim.Native.Nat.{ℕ, ◌-◌, ◌≤◌}
+use Prim.Native.Nat.{ℕ}
 use Rattle.rows.specs.Rows.{rows_by, RowsAre}
 use Rattle.rows.proofs.clear.clear_rows.Given as goal
 
 abbrev pub invariant-loop-i : goal.invariant-loop-i
-invariant-loop-i l = (l.from ≤ l.i) × (l.i ≤ l.to) × RowsAre (rows_by l.stride) l.n l.from l.i (λ (i k : ℕ). 0) l.initial.buf l.buf
-
-abbrev pub decreases-loop-i : goal.decreases-loop-i
-decreases-loop-i l = l.to - l.i
+invariant-loop-i l = RowsAre (rows_by l.stride) l.n l.from l.i (λ (i k : ℕ). 0) l.initial.buf l.buf

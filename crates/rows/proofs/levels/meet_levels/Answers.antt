@@ -2,19 +2,15 @@
 use mathlib.Core.Path.{◌∙◌}
 use native.Mathlib.Omega.{arith}
 use Rattle.frame.proofs.Spans.{shift_le}
-use Rattle.rows.proofs.Blocks.{down-row, down-shift, levels-met}
+use Rattle.rows.specs.Down.{descent}
+use Rattle.rows.proofs.Blocks.{down-row, down-shift, lines_few, levels-met}
 use Rattle.rows.proofs.levels.meet_levels.Goals as goal
-
-pub overflow_mul-i : goal.overflow_mul-i
-overflow_mul-i c =
-    let pre = c.requires in
-    omega (arith, down-row pre.0 c.args.i pre.1)
 
 pub overflow_add-a : goal.overflow_add-a
 overflow_add-a c =
     let a = c.args in
     let pre = c.requires in
-    omega (arith, c.shift_at-a.ensures, down-shift pre.0 a.i pre.1, shift_le a.s pre.0.sane a.i pre.1, pre.2)
+    omega (arith, c.shift_at-a.ensures, down-shift pre.0 a.i pre.1, shift_le a.s pre.0.sane a.i pre.1, lines_few pre.0)
 
 pub overflow_sub-s : goal.overflow_sub-s
 overflow_sub-s c =
@@ -31,5 +27,5 @@ returns c =
     let before = c.fade.ensures in
     let row = c.meet_by.ensures in
     let beyond = c.fade-2.ensures in
-    levels-met s a.darker pre.0 a.i (rw there at before) (rw there at row) (rw there at beyond) pre.2
+    levels-met (descent s a.darker) pre.0 a.i (rw there at before) (rw there at row) (rw there at beyond) (omega (arith, lines_few pre.0))
     (shift_le s pre.0.sane a.i pre.1) (down-row pre.0 a.i pre.1)

@@ -1,13 +1,8 @@
--- The marks of the first x columns are made, and the rest at x is known.
-use mathlib.Core.Path.{◌≡◌}
-use Prim.Native.Nat.{ℕ, ◌-◌, ◌≤◌}
-use lib.ListN.{length}
+-- The marks of the columns before this one are made, and its rest is known.
+use Prim.Native.Nat.{ℕ}
 use Rattle.rows.specs.Slants.{Bends, Rest, Surplus}
 use Rattle.rows.proofs.marks.mark_columns.Given as goal
 
-abbrev pub invariant-loop-x : goal.invariant-loop-x
-invariant-loop-x l =
-    (l.x ≤ l.n) × (length l.bends ≡ length l.initial.bends) × Rest l.run l.rise l.x l.rest × ((e step : ℕ) → Surplus l.run l.rise e step l.surplus → Bends l.run l.rise e step l.x l.bends)
-
-abbrev pub decreases-loop-x : goal.decreases-loop-x
-decreases-loop-x l = l.n - l.x
+abbrev pub invariant-loop-bend : goal.invariant-loop-bend
+invariant-loop-bend l =
+    Rest l.run l.rise l.bend-index l.rest × ((e step : ℕ) → Surplus l.run l.rise e step l.surplus → Bends l.run l.rise e step l.bend-index l.bend-items)

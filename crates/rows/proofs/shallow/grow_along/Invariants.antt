@@ -7,7 +7,7 @@ use Rattle.rows.proofs.shallow.grow_along.Given as goal
 
 abbrev pub invariant-loop-w : goal.invariant-loop-w
 invariant-loop-w l =
-    (lib.ListN.length l.buf ≡ lib.ListN.length l.initial.buf) × (lib.ListN.length l.bends ≡ lib.ListN.length l.initial.bends) × (1 ≤ l.w) × (l.w ≤ l.length)
+    (lib.ListN.length l.buf ≡ lib.ListN.length l.initial.buf) × (1 ≤ l.w) × (l.w ≤ l.length)
     × Grows l.darker l.s l.length l.w l.initial.buf l.buf × Dark l.s (edge l.darker l.s.majors l.length l.w) l.buf
 
 abbrev pub decreases-loop-w : goal.decreases-loop-w

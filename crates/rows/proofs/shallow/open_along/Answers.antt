@@ -1,5 +1,4 @@
 -- No window fits, or the erosion and then the dilation of that.
-use native.Mathlib.Omega.{arith}
 use Rattle.frame.specs.Sweep.{shift}
 use Rattle.rows.specs.Rows.{byte_of}
 use Rattle.rows.proofs.Lines.{opened-none}
@@ -13,23 +12,6 @@ returns-then-s-length c =
     let s = args.s in
     opened-none (shift s) (byte_of s) s.minors s.majors _ args.length c.if-s-length.true
     (cleared_lines s c.requires.0.next c.clear_rows.ensures)
-
-pub grow_along-requires-2 : goal.grow_along-requires-2
-grow_along-requires-2 c =
-    let pre = c.requires in
-    let slanted = pre.0 in
-    let eroded = c.grow_along in (
-      record {
-        sane = slanted.sane;
-        next = slanted.next;
-        apart = slanted.apart;
-        room = omega (arith, slanted.room, eroded.auto.buf);
-      },
-      pre.1,
-      omega arith,
-      omega (arith, slanted.sane.majors),
-      λ i k from. eroded.ensures.1 i k (omega arith),
-    )
 
 pub returns : goal.returns
 returns c =

@@ -1,24 +1,14 @@
 -- The line is at its end with no run open, or the climb comes to a run that ends there.
 use mathlib.Core.Path.{◌∙◌}
-use native.Mathlib.Omega.{arith}
 use Rattle.bright.proofs.Steps.{follows-none, follows-found}
 use Rattle.bright.specs.Generator.{run8}
 use Rattle.stretch.proofs.generator.find.Goals as goal
 
 pub returns-then-first-eq0 : goal.returns-then-first-eq0
 returns-then-first-eq0 c =
-    let first = c.open_first-first in
-    let none = first.ensures.none c.if-first-eq0.true in
+    let none = c.open_first-first.ensures.none c.if-first-eq0.true in
     let a = c.args in
-    rw c.nothing.ensures (follows-none run8 a.line.now a.scratch.now a.at first.new.scratch c.requires none.0 none.1 none.2)
-
-pub climb-here-requires : goal.climb-here-requires
-climb-here-requires c =
-    (c.open_first-first.ensures.ready, omega arith)
-
-pub close-requires : goal.close-requires
-close-requires c =
-    c.climb-here.ensures.closes
+    follows-none run8 a.line.now a.scratch.now a.at c.open_first-first.new.scratch c.requires none.0 none.1 none.2
 
 pub returns : goal.returns
 returns c =

@@ -7,23 +7,20 @@ use Rattle.bright.proofs.Laying.{laid, Laying, placed, Placing}
 use Rattle.stretch.proofs.listing.list.Given as goal
 
 -- the records of the stretches found so far are laid at the front of the table
-abbrev pub invariant-loop-table : goal.invariant-loop-table
-invariant-loop-table l =
+abbrev pub invariant-loop-nested : goal.invariant-loop-nested
+invariant-loop-nested l =
     record {
-      laying : Laying run8 l.line l.fn.table l.fn.scratch l.a l.i l.scratch l.at;
-      table : l.table ≡ laid l.line l.fn.table l.i;
+      laying : Laying run8 l.line l.fn.table l.fn.scratch l.count l.scratch l.at;
+      table : l.table ≡ laid l.line l.fn.table l.count;
     }
 
-abbrev pub decreases-loop-table : goal.decreases-loop-table
-decreases-loop-table l = length (stretches l.line) - l.i
+abbrev pub decreases-loop-nested : goal.decreases-loop-nested
+decreases-loop-nested l = length (stretches l.line) - l.count
 
 -- those from k on have their enclosers
 abbrev pub invariant-loop-k : goal.invariant-loop-k
 invariant-loop-k l =
     record {
-      placing : Placing l.line l.fn.table l.fn.scratch l.a l.i l.scratch l.k;
-      table : l.table ≡ placed l.line l.fn.table l.i l.k;
+      placing : Placing l.line l.fn.table l.fn.scratch l.count l.scratch l.k;
+      table : l.table ≡ placed l.line l.fn.table l.count l.k;
     }
-
-abbrev pub decreases-loop-k : goal.decreases-loop-k
-decreases-loop-k l = l.k

@@ -5,16 +5,6 @@ use native.Mathlib.Omega.{arith}
 use Rattle.bright.proofs.Links.{linking_start, linking_needs, linking_step, linking_end, can_nest_room}
 use Rattle.stretch.proofs.nesting.enclosers.Goals as goal
 
-pub returns-then-not-can_nest : goal.returns-then-not-can_nest
-returns-then-not-can_nest c =
-    let refused = sym c.can_nest.ensures ∙ c.if-not-can_nest.true in
-    record { counts = rw refused; written = rw refused; scratch_kept = λ _. refl; scratch_length = refl }
-
-pub note_all-count-requires : goal.note_all-count-requires
-note_all-count-requires c =
-    let can = can_nest_room _ _ _ (sym c.can_nest.ensures ∙ c.if-not-can_nest.false) in
-    (can.0, can.0, can.1, can.2)
-
 pub loop-k-init : goal.loop-k-init
 loop-k-init c =
     let can = can_nest_room _ _ _ (sym c.can_nest.ensures ∙ c.if-not-can_nest.false) in

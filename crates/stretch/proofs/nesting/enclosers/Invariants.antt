@@ -4,6 +4,3 @@ use Rattle.stretch.proofs.nesting.enclosers.Given as goal
 
 abbrev pub invariant-loop-k : goal.invariant-loop-k
 invariant-loop-k l = Linking l.line l.starts l.initial.places l.initial.scratch l.count l.places l.scratch l.k
-
-abbrev pub decreases-loop-k : goal.decreases-loop-k
-decreases-loop-k l = l.k

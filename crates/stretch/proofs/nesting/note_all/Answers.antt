@@ -3,7 +3,6 @@ use mathlib.Core.Path.{refl, ap, ◌∙◌}
 use mathlib.Core.List.{List}
 use Prim.Native.Nat.{ℕ}
 use native.Mathlib.Omega.{arith}
-use borrow.Author.Tests.{not-true, not-false}
 use Rattle.lists.proofs.Stores.{filled_none, filled_more, filled_end}
 use Rattle.bright.specs.declared.Nested.{Nested}
 use Rattle.bright.specs.Stretches.{stretches}
@@ -17,82 +16,63 @@ use Rattle.stretch.proofs.nesting.note_all.Goals as goal
 abbrev start_in : List ℕ → ℕ → ℕ
 start_in f i = (stretch_at (stretches f) i).start
 
-abbrev outerIn : List ℕ → ℕ → ℕ
-outerIn f = outer_of (stretches f)
-
-pub loop-step-init : goal.loop-step-init
-loop-step-init c =
-    let a = c.args in (
-      rw c.begin-at.ensures (finding_start run8 a.line.now a.scratch.now c.requires.0 c.requires.3),
-      filled_none a.starts.now 0 (start_in a.line.now),
-      filled_none a.outers.now 0 (outerIn a.line.now),
-      refl,
-    )
-
-pub returns-then-not-step : goal.returns-then-not-step
-returns-then-not-step c =
-    let at = c.loop-step in
-    let step = c.next_noted-step in
-    let all = finding_end at.invariant.0 step.ensures (not-true _ c.if-not-step.true) in
+pub loop-nested-init : goal.loop-nested-init
+loop-nested-init c =
+    let a = c.args in
     record {
-      counts = all;
-      starting = filled_end at.invariant.1 all;
-      outer = filled_end at.invariant.2 all;
-      kept = step.ensures.follows.kept ∙ at.invariant.3;
+      finding = rw c.begin-at.ensures (finding_start run8 a.line.now a.scratch.now c.requires.0 c.requires.3);
+      starting = filled_none a.starts.now 0 (start_in a.line.now);
+      outer = filled_none a.outers.now 0 (outer_of (stretches a.line.now));
+      kept = refl;
     }
 
-pub offset_bounds-starts-i : goal.offset_bounds-starts-i
-offset_bounds-starts-i c =
-    let at = c.loop-step in
-    let line = c.args.line.now in
-    let more = finding_more at.invariant.0 c.next_noted-step.ensures (not-false _ c.if-not-step.false) in
-    omega (arith, more, stretches-few line, c.requires.0)
+pub offset_bounds-starts-count : goal.offset_bounds-starts-count
+offset_bounds-starts-count c =
+    omega (arith, finding_more c.loop-nested.invariant.finding c.in-Some.ensures, stretches-few c.args.line.now, c.requires.0)
 
-pub bounds-starts-i : goal.bounds-starts-i
-bounds-starts-i c =
-    let at = c.loop-step in
-    let line = c.args.line.now in
-    let more = finding_more at.invariant.0 c.next_noted-step.ensures (not-false _ c.if-not-step.false) in
-    omega (arith, more, stretches-few line, c.requires.1, at.invariant.1.same)
+pub bounds-starts-count : goal.bounds-starts-count
+bounds-starts-count c =
+    let at = c.loop-nested.invariant in
+    omega (arith, finding_more at.finding c.in-Some.ensures, stretches-few c.args.line.now, c.requires.1, at.starting.same)
 
-pub offset_bounds-outers-i : goal.offset_bounds-outers-i
-offset_bounds-outers-i c =
-    let at = c.loop-step in
-    let line = c.args.line.now in
-    let more = finding_more at.invariant.0 c.next_noted-step.ensures (not-false _ c.if-not-step.false) in
-    omega (arith, more, stretches-few line, c.requires.0)
+pub offset_bounds-outers-count : goal.offset_bounds-outers-count
+offset_bounds-outers-count c =
+    omega (arith, finding_more c.loop-nested.invariant.finding c.in-Some.ensures, stretches-few c.args.line.now, c.requires.0)
 
-pub bounds-outers-i : goal.bounds-outers-i
-bounds-outers-i c =
-    let at = c.loop-step in
-    let line = c.args.line.now in
-    let more = finding_more at.invariant.0 c.next_noted-step.ensures (not-false _ c.if-not-step.false) in
-    omega (arith, more, stretches-few line, c.requires.2, at.invariant.2.same)
+pub bounds-outers-count : goal.bounds-outers-count
+bounds-outers-count c =
+    let at = c.loop-nested.invariant in
+    omega (arith, finding_more at.finding c.in-Some.ensures, stretches-few c.args.line.now, c.requires.2, at.outer.same)
 
-pub overflow_add-i : goal.overflow_add-i
-overflow_add-i c =
-    let at = c.loop-step in
-    let line = c.args.line.now in
-    let more = finding_more at.invariant.0 c.next_noted-step.ensures (not-false _ c.if-not-step.false) in
-    omega (arith, more, stretches-few line, c.requires.0)
+pub overflow_add-count : goal.overflow_add-count
+overflow_add-count c =
+    omega (arith, finding_more c.loop-nested.invariant.finding c.in-Some.ensures, stretches-few c.args.line.now, c.requires.0)
 
-pub loop-step-smaller : goal.loop-step-smaller
-loop-step-smaller c =
-    let at = c.loop-step in
-    let line = c.args.line.now in
-    let more = finding_more at.invariant.0 c.next_noted-step.ensures (not-false _ c.if-not-step.false) in
-    omega (arith, more)
+pub loop-nested-smaller : goal.loop-nested-smaller
+loop-nested-smaller c =
+    omega (arith, finding_more c.loop-nested.invariant.finding c.in-Some.ensures)
 
-pub loop-step-preserved : goal.loop-step-preserved
-loop-step-preserved c =
-    let at = c.loop-step in
-    let step = c.next_noted-step in
-    let line = c.args.line.now in
-    let found = not-false _ c.if-not-step.false in
-    let more = finding_more at.invariant.0 step.ensures found in
-    let is = finding_noted at.invariant.0 step.ensures found in (
-      finding_step at.invariant.0 step.ensures found,
-      filled_more at.invariant.1 (omega arith) (omega (arith, more, stretches-few line, c.requires.1, at.invariant.1.same)) (ap (λ (s : Nested). s.stretch.start) is),
-      filled_more at.invariant.2 (omega arith) (omega (arith, more, stretches-few line, c.requires.2, at.invariant.2.same)) (ap (λ (s : Nested). s.encloser) is),
-      step.ensures.follows.kept ∙ at.invariant.3,
-    )
+pub loop-nested-preserved : goal.loop-nested-preserved
+loop-nested-preserved c =
+    let at = c.loop-nested.invariant in
+    let step = c.in-Some.ensures in
+    let more = finding_more at.finding step in
+    let few = stretches-few c.args.line.now in
+    let is = finding_noted at.finding step in
+    record {
+      finding = finding_step at.finding step;
+      starting = filled_more at.starting (omega arith) (omega (arith, more, few, c.requires.1, at.starting.same)) (ap (λ (n : Nested). n.stretch.start) is);
+      outer = filled_more at.outer (omega arith) (omega (arith, more, few, c.requires.2, at.outer.same)) (ap (λ (n : Nested). n.encloser) is);
+      kept = step.follows.kept ∙ at.kept;
+    }
+
+pub returns : goal.returns
+returns c =
+    let at = c.loop-nested.invariant in
+    let all = finding_end at.finding c.in_default.ensures in
+    record {
+      counts = all;
+      starting = filled_end at.starting all;
+      outer = filled_end at.outer all;
+      kept = c.in_default.ensures.follows.kept ∙ at.kept;
+    }

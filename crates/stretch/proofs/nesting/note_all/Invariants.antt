@@ -10,9 +10,14 @@ use Rattle.bright.specs.Steps.{outer_of}
 use Rattle.bright.proofs.Links.{Finding}
 use Rattle.stretch.proofs.nesting.note_all.Given as goal
 
-abbrev pub invariant-loop-step : goal.invariant-loop-step
-invariant-loop-step l =
-    Finding run8 l.line l.scratch l.at l.i × Filled l.initial.starts l.starts 0 l.i (λ (i : ℕ). (stretch_at (stretches l.line) i).start) × Filled l.initial.outers l.outers 0 l.i (outer_of (stretches l.line)) × (length l.scratch ≡ length l.initial.scratch)
+abbrev pub invariant-loop-nested : goal.invariant-loop-nested
+invariant-loop-nested l =
+    record {
+      finding : Finding run8 l.line l.scratch l.at l.count;
+      starting : Filled l.fn.starts l.starts 0 l.count (λ (i : ℕ). (stretch_at (stretches l.line) i).start);
+      outer : Filled l.fn.outers l.outers 0 l.count (outer_of (stretches l.line));
+      kept : length l.scratch ≡ length l.fn.scratch;
+    }
 
-abbrev pub decreases-loop-step : goal.decreases-loop-step
-decreases-loop-step l = length (stretches l.line) - l.i
+abbrev pub decreases-loop-nested : goal.decreases-loop-nested
+decreases-loop-nested l = length (stretches l.line) - l.count

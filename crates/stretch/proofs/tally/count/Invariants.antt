@@ -1,14 +1,13 @@
--- Each turn pops one level, which counts, or reads one pixel.
-use Prim.Native.Nat.{◌+◌, ◌-◌, ◌*◌}
-use lib.ListN.{length}
+-- Each turn of the inner loop pops one level, which counts; each of the outer one reads a pixel.
 use Rattle.bright.proofs.Counting.{Going}
 use Rattle.bright.specs.Reading.{levels8}
 use Rattle.stretch.proofs.tally.count.Given as goal
 
-abbrev pub invariant-loop-read : goal.invariant-loop-read
-invariant-loop-read l =
-    Going levels8 l.line l.levels l.depth l.total l.read
+abbrev pub invariant-loop-v : goal.invariant-loop-v
+invariant-loop-v l = Going levels8 l.line l.levels l.depth l.total l.v-index
 
-abbrev pub decreases-loop-read : goal.decreases-loop-read
-decreases-loop-read l =
-    2 * (length l.line - l.read) + l.depth
+abbrev pub invariant-loop-depth : goal.invariant-loop-depth
+invariant-loop-depth l = Going levels8 l.line l.levels l.depth l.total l.v-index
+
+abbrev pub decreases-loop-depth : goal.decreases-loop-depth
+decreases-loop-depth l = l.depth

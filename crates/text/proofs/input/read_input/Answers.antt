@@ -1,65 +1,52 @@
--- The rules, and then the pixels at the front.
-use mathlib.Core.Path.{sym, ap₂, ◌∙◌}
-use Prim.Native.Nat.{ℕ, ◌*◌}
-use native.Mathlib.Omega.{arith}
-use lib.ListN.{length}
-use Rattle.answer.proofs.Rules.{after-done, after-refused}
-use Rattle.text.proofs.Frames.{input_fits, input_value, input_small, input_room, input_below, input_pixels, input_refused, input_done}
-use borrow.Author.Rules.{rules}
+-- The pixels are few enough and have room, and go to the front.
+use Rattle.std.proofs.Common.{◌*◌, sym, ◌∙◌, length, arith}
+use Rattle.std.proofs.lemmas.List.{length-take-le}
+use Rattle.std.proofs.lemmas.Result.{err_from_is_err_and}
+use Rattle.std.specs.Prelude.{Err}
+use Rattle.answer.proofs.Rules.{after-refused}
+use Rattle.answer.proofs.Refusals.{refused_number}
+use Rattle.text.specs.Inputs.{width_in, height_in, outcome}
+use Rattle.text.proofs.Frames.{input_short, input_room, input_copied, input_refused, input_done}
 use Rattle.text.proofs.input.read_input.Goals as goal
 
-pub returns-then-answer-ne0 : goal.returns-then-answer-ne0
-returns-then-answer-ne0 c =
-    let text = c.args.text.now in
-    let room = length c.args.pixels.now in
-    let a = c.tested-answer.result in
-    let tests = c.tested-answer.ensures in
-    record { reads = input_refused text room a tests.answers c.if-answer-ne0.true; written = sym (after-refused a _ _ c.if-answer-ne0.true) }
+pub slice_bounds-values-end : goal.slice_bounds-values-end
+slice_bounds-values-end c =
+    let read = c.in_ok-input.ensures in
+    rw (read.reads.1, read.reads.2) (omega (arith, input_short c.args.text.now (length c.args.pixels.now) read.answers, c.tested.auto.values))
 
-pub overflow_mul-width : goal.overflow_mul-width
-overflow_mul-width c =
+pub slice_bounds-copy_from_slice-end-3 : goal.slice_bounds-copy_from_slice-end-3
+slice_bounds-copy_from_slice-end-3 c =
     let text = c.args.text.now in
-    let room = length c.args.pixels.now in
-    let a = c.tested-answer.result in
-    let tests = c.tested-answer.ensures in
-    let done = c.if-answer-ne0.false in
-    let value = input_value text room _ _ a tests done (search rules) in
-    let width = c.wide-width.ensures.0 ∙ value 1 (omega arith) in
-    let height = c.wide-height.ensures.0 ∙ value 2 (omega arith) in
-    let pixels = ap₂ (λ (w h : ℕ). w * h) width height in
-    let small = input_small text room _ _ a tests done (search rules) in
-    record { fits = omega (arith, small, pixels) }
+    let read = c.in_ok-input.ensures in
+    let short = input_short text (length c.args.pixels.now) read.answers in
+    rw (read.reads.1, read.reads.2) (sym (length-take-le (width_in text * height_in text) c.tested.new.values (omega (arith, short, c.tested.auto.values))))
 
-pub copy_pixels-requires : goal.copy_pixels-requires
-copy_pixels-requires c =
-    let args = c.args in
-    let text = args.text.now in
-    let room = length args.pixels.now in
-    let a = c.tested-answer.result in
-    let tests = c.tested-answer.ensures in
-    let done = c.if-answer-ne0.false in
-    let value = input_value text room _ _ a tests done (search rules) in
-    let width = c.wide-width.ensures.0 ∙ value 1 (omega arith) in
-    let height = c.wide-height.ensures.0 ∙ value 2 (omega arith) in
-    let pixels = ap₂ (λ (w h : ℕ). w * h) width height in
-    let below = input_below text room _ _ a tests done (search rules) in (
-      omega (arith, pixels, input_room text room _ _ a tests done (search rules)),
-      omega
-          (arith, pixels, (input_fits text room _ _ a tests done (search rules)).2),
-      λ k h. below k (omega (arith, pixels)),
-    )
+pub copy_from_slice-requires : goal.copy_from_slice-requires
+copy_from_slice-requires c =
+    let text = c.args.text.now in
+    let dst = c.args.pixels.now in
+    let read = c.in_ok-input.ensures in
+    let n = width_in text * height_in text in
+    let short = input_short text (length dst) read.answers in
+    rw (read.reads.1, read.reads.2) (length-take-le n dst (input_room text (length dst) read.answers) ∙ sym (length-take-le n c.tested.new.values (omega (arith, short, c.tested.auto.values))))
 
 pub returns : goal.returns
 returns c =
     let text = c.args.text.now in
-    let room = length c.args.pixels.now in
-    let a = c.tested-answer.result in
-    let tests = c.tested-answer.ensures in
-    let done = c.if-answer-ne0.false in
-    let value = input_value text room _ _ a tests done (search rules) in
-    let width = c.wide-width.ensures.0 ∙ value 1 (omega arith) in
-    let height = c.wide-height.ensures.0 ∙ value 2 (omega arith) in
-    let pixels = ap₂ (λ (w h : ℕ). w * h) width height in
-    let direction = c.wide-direction.ensures.0 ∙ value 0 (omega arith) in
-    let copied = rw (pixels, input_pixels text room _ _ a tests done (search rules)) at c.copy_pixels.ensures in
-    record { reads = input_done text room a tests.answers _ _ _ done direction width height; written = copied ∙ sym (after-done a _ _ done) }
+    let dst = c.args.pixels.now in
+    let read = c.in_ok-input.ensures in
+    record {
+      reads = input_done text (length dst) c.in_ok-input.input read.answers read.reads.0 read.reads.1 read.reads.2;
+      written = rw (c.copy_from_slice.ensures.after, read.reads.1, read.reads.2) (input_copied text (length dst) read.answers _ c.tested.new.values dst read.reads.3);
+    }
+
+pub returns-in_err-input : goal.returns-in_err-input
+returns-in_err-input c =
+    let text = c.args.text.now in
+    let dst = c.args.pixels.now in
+    let refused = c.in_err-input.ensures in
+    let p = err_from_is_err_and c.from_residual.result c.from_residual.ensures.1 in
+    rw (p.1, p.2) (record {
+      reads = input_refused text (length dst) c.in_err-input.field-0.0 refused.answers;
+      written = sym (after-refused (outcome (Err c.in_err-input.field-0.0)).answer _ dst (refused_number c.in_err-input.field-0.0));
+    })

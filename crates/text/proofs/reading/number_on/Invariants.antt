@@ -1,12 +1,10 @@
--- The number whose value so far is `value` goes on at `next`.
-use mathlib.Core.Path.{◌≡◌}
-use Prim.Native.Nat.{◌-◌, ◌≤◌}
-use lib.ListN.{length, drop}
+-- The number whose value so far is `value` goes on at `rest`.
+use Rattle.std.proofs.Common.{◌≡◌, length}
 use Rattle.text.specs.Reading.{number_on}
 use Rattle.text.proofs.reading.number_on.Given as goal
 
-abbrev pub invariant-loop-next : goal.invariant-loop-next
-invariant-loop-next l = (l.at ≤ l.next) × (l.next ≤ length l.text) × (number_on l.first (drop l.at l.text) ≡ number_on l.value (drop l.next l.text))
+abbrev pub invariant-loop-c : goal.invariant-loop-c
+invariant-loop-c l = number_on l.first l.text ≡ number_on l.value l.rest
 
-abbrev pub decreases-loop-next : goal.decreases-loop-next
-decreases-loop-next l = length l.text - l.next
+abbrev pub decreases-loop-c : goal.decreases-loop-c
+decreases-loop-c l = length l.rest

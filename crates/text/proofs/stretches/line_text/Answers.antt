@@ -4,45 +4,47 @@ use native.Mathlib.Omega.{arith}
 use lib.ListN.{length}
 use mir.Facts.{to_z-of_z}
 use Rattle.text.specs.Stretches.{line_report}
-use Rattle.text.proofs.Reports.{title_most, stretches-most, report_length, report_put, prints_done, prints_none, printable, too_long, no_room}
+use Rattle.text.proofs.Reports.{title_most, stretches-most, report_length, report_put, prints_done, prints_none, printable, no_room}
 use Rattle.text.proofs.Printings.{places-there}
 use borrow.Author.Rules.{rules}
 use Rattle.text.proofs.stretches.line_text.Goals as goal
 
-pub returns-then-line-gt-LONGEST : goal.returns-then-line-gt-LONGEST
-returns-then-line-gt-LONGEST c =
-    let args = c.args in
-    let z = args.z in
-    let line = args.line.now in
-    let dst = args.dst.now in
-    record { text = prints_none (line_report z line) dst (too_long z line (length dst) c.if-line-gt-LONGEST.true) }
+pub put_title-title-requires : goal.put_title-title-requires
+put_title-title-requires c = rw (to_z-of_z c.ranges.z) (omega (arith, title_most c.args.z (length c.args.line.now)))
 
-pub stretches_bytes-requires : goal.stretches_bytes-requires
-stretches_bytes-requires c =
+pub put_stretches-bytes-requires : goal.put_stretches-bytes-requires
+put_stretches-bytes-requires c =
     let short = c.if-line-gt-LONGEST.false in
-    let found = c.enclosers in
-    (short, search rules, places-there found.ensures short (search rules) (search rules))
-
-pub overflow_add-bytes : goal.overflow_add-bytes
-overflow_add-bytes c =
     let line = c.args.line.now in
-    let title = rw (to_z-of_z c.ranges.z) at c.title_bytes-title.ensures in
-    omega (arith, title, title_most c.args.z (length line), c.stretches_bytes.ensures, stretches-most line, c.if-line-gt-LONGEST.false)
+    let title = rw (to_z-of_z c.ranges.z) at c.put_title-title.ensures in
+    (short, search rules, places-there c.enclosers.ensures short (search rules) (search rules), omega (arith, title.next, title_most c.args.z (length line), stretches-most line))
 
-pub returns-then-dst-bytes : goal.returns-then-dst-bytes
-returns-then-dst-bytes c =
+pub returns-then-short : goal.returns-then-short
+returns-then-short c =
     let z = c.args.z in
     let line = c.args.line.now in
     let dst = c.args.dst.now in
-    let title = rw (to_z-of_z c.ranges.z) at c.title_bytes-title.ensures in
-    let small : length dst < length (line_report z line) = omega (arith, title, c.stretches_bytes.ensures, report_length z line, c.if-dst-bytes.true) in
+    let title = rw (to_z-of_z c.ranges.z) at c.put_title-title.ensures in
+    let small : length dst < length (line_report z line) = omega (arith, title.next, c.put_stretches-bytes.ensures.next, report_length z line, c.if-short.true) in
     record { text = prints_none (line_report z line) dst (no_room z line (length dst) small) }
+
+pub put_title-end-requires : goal.put_title-end-requires
+put_title-end-requires c =
+    let title = rw (to_z-of_z c.ranges.z) at c.put_title-title.ensures in
+    rw (to_z-of_z c.ranges.z) (omega (arith, title.next, title_most c.args.z (length c.args.line.now)))
 
 pub put_stretches-requires : goal.put_stretches-requires
 put_stretches-requires c =
     let short = c.if-line-gt-LONGEST.false in
-    let found = c.enclosers in
-    (short, search rules, places-there found.ensures short (search rules) (search rules), search rules)
+    let line = c.args.line.now in
+    let bits = to_z-of_z c.ranges.z in
+    let title = rw bits at c.put_title-title.ensures in
+    let put = rw bits at c.put_title-end.ensures in (
+      short,
+      search rules,
+      places-there c.enclosers.ensures short (search rules) (search rules),
+      omega (arith, title.next, put.next, title_most c.args.z (length line), stretches-most line),
+    )
 
 pub returns : goal.returns
 returns c =
@@ -50,8 +52,8 @@ returns c =
     let line = c.args.line.now in
     let dst = c.args.dst.now in
     let bits = to_z-of_z c.ranges.z in
-    let bytes = rw bits at c.title_bytes-title.ensures in
-    let title = rw bits at c.put_title-end.ensures in
-    let fit : length (line_report z line) ≤ length dst = omega (arith, bytes, c.stretches_bytes.ensures, report_length z line, c.if-dst-bytes.false) in
+    let title = rw bits at c.put_title-title.ensures in
+    let put = rw bits at c.put_title-end.ensures in
+    let fit : length (line_report z line) ≤ length dst = omega (arith, title.next, c.put_stretches-bytes.ensures.next, report_length z line, c.if-short.false) in
     let short = c.if-line-gt-LONGEST.false in
-    record { text = prints_done (printable z line (length dst) short fit) (report_put z line title c.put_stretches.ensures) fit }
+    record { text = prints_done (printable z line (length dst) short fit) (report_put z line put c.put_stretches.ensures) fit }

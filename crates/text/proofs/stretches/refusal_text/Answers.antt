@@ -1,20 +1,24 @@
 -- The line, where it has room.
-use lib.ListN.{length}
+use Rattle.std.proofs.Common.{◌≤◌, ◌<◌, [], ◌∷◌, length, arith}
 use borrow.Author.Tests.{lt-leb, le-leb}
 use Rattle.text.specs.Stretches.{refusal_text}
+use Rattle.text.proofs.Runs.{line_most}
 use Rattle.text.proofs.Reports.{prints_done, prints_none}
 use Rattle.text.proofs.stretches.refusal_text.Goals as goal
 
-pub returns-then-line_bytes-dst : goal.returns-then-line_bytes-dst
-returns-then-line_bytes-dst c =
-    let number = c.args.number in
+pub put_line-requires : goal.put_line-requires
+put_line-requires c = omega (arith, line_most 69 (c.args.number ∷ []))
+
+pub returns-then-dst-put_line : goal.returns-then-dst-put_line
+returns-then-dst-put_line c =
+    let text = refusal_text c.args.number in
     let dst = c.args.dst.now in
-    let fit = rw c.line_bytes.ensures.0 at c.if-line_bytes-dst.true in
-    record { text = prints_done (le-leb (length (refusal_text number)) (length dst) fit) c.put_line.ensures fit }
+    let short : length dst < length text = omega (arith, c.put_line.ensures.next) in
+    record { text = prints_none text dst (lt-leb (length text) (length dst) short) }
 
 pub returns : goal.returns
 returns c =
-    let number = c.args.number in
+    let text = refusal_text c.args.number in
     let dst = c.args.dst.now in
-    let short = rw c.line_bytes.ensures.0 at c.if-line_bytes-dst.false in
-    record { text = prints_none (refusal_text number) dst (lt-leb (length (refusal_text number)) (length dst) short) }
+    let fit : length text ≤ length dst = omega (arith, c.put_line.ensures.next) in
+    record { text = prints_done (le-leb (length text) (length dst) fit) c.put_line-2.ensures fit }

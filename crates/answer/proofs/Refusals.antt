@@ -1,0 +1,70 @@
+-- What the answer of a call says of what the call handed back.
+--   decoded n f                    what a call with the number n and the figure f handed back
+--   counted_once, settled_once     no two outcomes of a call have one answer
+--   refused_number                 no refusal has the number of a done call
+-- Assumes nothing.
+use mathlib.Core.Path.{◌≡◌, refl, sym, ap, ◌∙◌}
+use Prim.Native.Nat.{ℕ, zero, suc}
+use native.Mathlib.Omega.{arith}
+use Rattle.std.specs.Prelude.{Result, Ok, Err}
+use Rattle.answer.specs.declared.Answer.{Answer}
+use Rattle.answer.specs.declared.Refusal.{Refusal}
+use Rattle.answer.specs.declared.Refusal.TheVariants.{Size, Direction, Length, Sums, Source, Destination, Scratch, Table, Input, Dark, Bright}
+use Rattle.answer.specs.Refusals.{number_of, counted, settled}
+
+decoded : ℕ → ℕ → Result ℕ Refusal
+decoded zero f = Ok f
+decoded (suc zero) f = Err Size
+decoded (suc (suc zero)) f = Err Direction
+decoded (suc (suc (suc zero))) f = Err Length
+decoded (suc (suc (suc (suc zero)))) f = Err Sums
+decoded (suc (suc (suc (suc (suc zero))))) f = Err (Source f)
+decoded (suc (suc (suc (suc (suc (suc zero)))))) f = Err (Destination f)
+decoded (suc (suc (suc (suc (suc (suc (suc zero))))))) f = Err (Scratch f)
+decoded (suc (suc (suc (suc (suc (suc (suc (suc zero)))))))) f = Err (Table f)
+decoded (suc (suc (suc (suc (suc (suc (suc (suc (suc zero))))))))) f = Err Input
+decoded (suc (suc (suc (suc (suc (suc (suc (suc (suc (suc zero)))))))))) f = Err Dark
+decoded (suc (suc (suc (suc (suc (suc (suc (suc (suc (suc (suc n))))))))))) f = Err Bright
+
+decoded_counted : (r : Result ℕ Refusal) → decoded (counted r).number (counted r).figure ≡ r
+unfolding decoded
+decoded_counted (Ok n) = refl
+decoded_counted (Err Size) = refl
+decoded_counted (Err Direction) = refl
+decoded_counted (Err Length) = refl
+decoded_counted (Err Sums) = refl
+decoded_counted (Err (Source n)) = refl
+decoded_counted (Err (Destination n)) = refl
+decoded_counted (Err (Scratch n)) = refl
+decoded_counted (Err (Table n)) = refl
+decoded_counted (Err Input) = refl
+decoded_counted (Err Dark) = refl
+decoded_counted (Err Bright) = refl
+
+pub counted_once : (r r' : Result ℕ Refusal) → counted r ≡ counted r' → r ≡ r'
+counted_once r r' same = sym (decoded_counted r) ∙ ap (λ (a : Answer). decoded a.number a.figure) same ∙ decoded_counted r'
+
+abbrev unsettled : Result ℕ Refusal → Result (Unit {0}) Refusal
+unsettled (Ok n) = Ok tt
+unsettled (Err e) = Err e
+
+decoded_settled : (r : Result (Unit {0}) Refusal) → unsettled (decoded (settled r).number (settled r).figure) ≡ r
+unfolding decoded
+decoded_settled (Ok u) = refl
+decoded_settled (Err e) = ap unsettled (decoded_counted (Err e))
+
+pub settled_once : (r r' : Result (Unit {0}) Refusal) → settled r ≡ settled r' → r ≡ r'
+settled_once r r' same = sym (decoded_settled r) ∙ ap (λ (a : Answer). unsettled (decoded a.number a.figure)) same ∙ decoded_settled r'
+
+pub refused_number : (e : Refusal) → number_of e ≡ 0 → ⊥
+refused_number Size z = absurd (omega arith)
+refused_number Direction z = absurd (omega arith)
+refused_number Length z = absurd (omega arith)
+refused_number Sums z = absurd (omega arith)
+refused_number (Source n) z = absurd (omega arith)
+refused_number (Destination n) z = absurd (omega arith)
+refused_number (Scratch n) z = absurd (omega arith)
+refused_number (Table n) z = absurd (omega arith)
+refused_number Input z = absurd (omega arith)
+refused_number Dark z = absurd (omega arith)
+refused_number Bright z = absurd (omega arith)
