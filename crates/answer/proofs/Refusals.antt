@@ -1,6 +1,6 @@
 -- What the answer of a call says of what the call handed back.
 --   decoded n f                    what a call with the number n and the figure f handed back
---   counted_once, settled_once     no two outcomes of a call have one answer
+--   counted_once, finished_once     no two outcomes of a call have one answer
 --   refused_number                 no refusal has the number of a done call
 -- Assumes nothing.
 use mathlib.Core.Path.{◌≡◌, refl, sym, ap, ◌∙◌}
@@ -10,7 +10,7 @@ use Rattle.std.specs.Prelude.{Result, Ok, Err}
 use Rattle.answer.specs.declared.Answer.{Answer}
 use Rattle.answer.specs.declared.Refusal.{Refusal}
 use Rattle.answer.specs.declared.Refusal.TheVariants.{Size, Direction, Length, Sums, Source, Destination, Scratch, Table, Input, Dark, Bright}
-use Rattle.answer.specs.Refusals.{number_of, counted, settled}
+use Rattle.answer.specs.Refusals.{rule_of, counted, finished}
 
 decoded : ℕ → ℕ → Result ℕ Refusal
 decoded zero f = Ok f
@@ -44,19 +44,19 @@ decoded_counted (Err Bright) = refl
 pub counted_once : (r r' : Result ℕ Refusal) → counted r ≡ counted r' → r ≡ r'
 counted_once r r' same = sym (decoded_counted r) ∙ ap (λ (a : Answer). decoded a.number a.figure) same ∙ decoded_counted r'
 
-abbrev unsettled : Result ℕ Refusal → Result (Unit {0}) Refusal
-unsettled (Ok n) = Ok tt
-unsettled (Err e) = Err e
+abbrev uncounted : Result ℕ Refusal → Result (Unit {0}) Refusal
+uncounted (Ok n) = Ok tt
+uncounted (Err e) = Err e
 
-decoded_settled : (r : Result (Unit {0}) Refusal) → unsettled (decoded (settled r).number (settled r).figure) ≡ r
+decoded_finished : (r : Result (Unit {0}) Refusal) → uncounted (decoded (finished r).number (finished r).figure) ≡ r
 unfolding decoded
-decoded_settled (Ok u) = refl
-decoded_settled (Err e) = ap unsettled (decoded_counted (Err e))
+decoded_finished (Ok u) = refl
+decoded_finished (Err e) = ap uncounted (decoded_counted (Err e))
 
-pub settled_once : (r r' : Result (Unit {0}) Refusal) → settled r ≡ settled r' → r ≡ r'
-settled_once r r' same = sym (decoded_settled r) ∙ ap (λ (a : Answer). unsettled (decoded a.number a.figure)) same ∙ decoded_settled r'
+pub finished_once : (r r' : Result (Unit {0}) Refusal) → finished r ≡ finished r' → r ≡ r'
+finished_once r r' same = sym (decoded_finished r) ∙ ap (λ (a : Answer). uncounted (decoded a.number a.figure)) same ∙ decoded_finished r'
 
-pub refused_number : (e : Refusal) → number_of e ≡ 0 → ⊥
+pub refused_number : (e : Refusal) → rule_of e ≡ 0 → ⊥
 refused_number Size z = absurd (omega arith)
 refused_number Direction z = absurd (omega arith)
 refused_number Length z = absurd (omega arith)

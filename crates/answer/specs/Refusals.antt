@@ -1,9 +1,9 @@
 -- Refusals as the calls hand them back, and the two numbers that stand for each.
---   number_of e        the number of the rule that refuses
+--   rule_of e        the number of the rule that refuses
 --   needed_of e        how much is needed, where something is too short; else 0
 --   counted r          the answer of a call that hands back a count, or refuses
---   settled r          the answer of a call that is done, with the figure 0, or refuses
---   Tests b e r        what the test of a rule hands back that refuses with e and is broken where b holds
+--   finished r          the answer of a call that is done, with the figure 0, or refuses
+--   Checks b e r        what the test of a rule hands back that refuses with e and is broken where b holds
 -- Laws: answer/proofs/Refusals.
 use Rattle.std.specs.Prelude.{◌≡◌, Bool, true, false, ℕ, Result, Ok, Err}
 use Rattle.answer.specs.declared.Answer.{Answer}
@@ -12,18 +12,18 @@ use Rattle.answer.specs.declared.Refusal.TheVariants.{Size, Direction, Length, S
 use Rattle.answer.specs.Rules.{done, refusal}
 
 -- the column 'No.' of the table of refusals
-abbrev pub number_of : Refusal → ℕ
-number_of Size = 1
-number_of Direction = 2
-number_of Length = 3
-number_of Sums = 4
-number_of (Source n) = 5
-number_of (Destination n) = 6
-number_of (Scratch n) = 7
-number_of (Table n) = 8
-number_of Input = 9
-number_of Dark = 10
-number_of Bright = 11
+abbrev pub rule_of : Refusal → ℕ
+rule_of Size = 1
+rule_of Direction = 2
+rule_of Length = 3
+rule_of Sums = 4
+rule_of (Source n) = 5
+rule_of (Destination n) = 6
+rule_of (Scratch n) = 7
+rule_of (Table n) = 8
+rule_of Input = 9
+rule_of Dark = 10
+rule_of Bright = 11
 
 -- the column 'Hands back': 'bytes needed', 'entries needed', else 0
 abbrev pub needed_of : Refusal → ℕ
@@ -42,13 +42,13 @@ needed_of Bright = 0
 -- '0 is done'
 abbrev pub counted : Result ℕ Refusal → Answer
 counted (Ok n) = done n
-counted (Err e) = refusal (number_of e) (needed_of e)
+counted (Err e) = refusal (rule_of e) (needed_of e)
 
 -- 'the other numbered calls hand back 0'
-abbrev pub settled : Result (Unit {0}) Refusal → Answer
-settled (Ok u) = done 0
-settled (Err e) = refusal (number_of e) (needed_of e)
+abbrev pub finished : Result (Unit {0}) Refusal → Answer
+finished (Ok u) = done 0
+finished (Err e) = refusal (rule_of e) (needed_of e)
 
-abbrev pub Tests : Bool → Refusal → Result (Unit {0}) Refusal → Type 0
-Tests b e (Ok u) = b ≡ false
-Tests b e (Err e') = (b ≡ true) × (e' ≡ e)
+abbrev pub Checks : Bool → Refusal → Result (Unit {0}) Refusal → Type 0
+Checks b e (Ok u) = b ≡ false
+Checks b e (Err e') = (b ≡ true) × (e' ≡ e)

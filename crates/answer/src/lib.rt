@@ -3,7 +3,7 @@
 
 ghost use Rattle.std.specs.Prelude.{◌≡◌, ltb};
 ghost use Rattle.answer.specs.Rules.{outside};
-ghost use Rattle.answer.specs.Refusals.{number_of, needed_of, counted, settled, Tests};
+ghost use Rattle.answer.specs.Refusals.{rule_of, needed_of, counted, finished, Checks};
 
 // The most pixels of a side, of a line and of a length, and the most bins of a size sum.
 pub const LONGEST: usize = 4096;
@@ -33,7 +33,7 @@ pub enum Refusal {
 impl Refusal {
     // The rule's number.
     pub fn number(self) -> u32
-        ensures { result ≡ number_of self }
+        ensures { result ≡ rule_of self }
     {
         match self {
             Refusal::Size => 1,
@@ -65,14 +65,14 @@ impl Refusal {
 
     // Refuses where the rule is broken.
     pub fn when(self, broken: bool) -> Result<(), Refusal>
-        ensures { Tests broken self result }
+        ensures { Checks broken self result }
     {
         if broken { Err(self) } else { Ok(()) }
     }
 
     // Refuses where less is there than is needed.
     pub fn unless_there(self, n: usize) -> Result<(), Refusal>
-        ensures { Tests (ltb n (needed_of self)) self result }
+        ensures { Checks (ltb n (needed_of self)) self result }
     {
         self.when(n < self.needed())
     }
@@ -105,7 +105,7 @@ impl From<Result<usize, Refusal>> for Answer {
 
 impl From<Result<(), Refusal>> for Answer {
     fn from(outcome: Result<(), Refusal>) -> Answer
-        ensures { result ≡ settled outcome }
+        ensures { result ≡ finished outcome }
     {
         Answer::from(outcome.map(|()| 0usize))
     }

@@ -106,7 +106,7 @@ fn write_whole<W: Write>(stream: &mut W, text: &[u8]) -> bool
 }
 
 // Writes the first n bytes of a text to a stream. Answers whether they are written: not where n is 0, which is how the calls that write texts say that
-// they had no room, nor where the text has fewer.
+// they had no room, nor where the text has fewer. Text and n go apart, since `Shows` speaks of both.
 pub fn show<W: Write>(stream: &mut W, text: &[u8], n: usize) -> bool
     ensures { Shows (W.contents stream.old) (W.contents stream.new) text.now n result }
 {

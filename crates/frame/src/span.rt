@@ -7,6 +7,7 @@ ghost use Rattle.frame.specs.Span.{passed, skipped, track_at};
 use crate::sweep::Sweep;
 use crate::track::Track;
 
+// `Sane` is a clause of each and no ghost field: `Sweep` has public fields, from which `rows` makes sweeps too, and the one without a line is not sane.
 impl Sweep {
     // The first major coordinate at which a line has moved more than x aside; `majors` where there is none.
     #[tactic(auto, unfolding(crate::specs::Span::passed))]

@@ -1,4 +1,5 @@
-// A line's walk through its frame: the bytes of its pixels, one after the other.
+// A line's walk through its frame: the bytes of its pixels, one after the other. Gathering, scattering and claiming walk it in loops of their own, since one reads the
+// frame and the others write it.
 ghost use Rattle.std.specs.Prelude.{◌≡◌, true, ℕ, ◌+◌, ◌<◌};
 ghost use Rattle.frame.specs.Sweep.{hit, cell, Sane, Reach};
 ghost use Rattle.frame.specs.Span.{Spans};

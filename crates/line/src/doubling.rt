@@ -16,7 +16,7 @@ pub fn growth(w: usize, length: usize) -> usize
 
 // The line begins with the values of its erosion; what follows them is left over from the passes. A `while`, here and in the dilation, since the step varies; and two
 // functions, since one for both would choose each turn where the row and its partners begin and how far they reach. That a length is not 0 is a clause here and above,
-// and no type's: each function that asks for it asks for another bound of the length as well, by what it opens.
+// and no type's: a `NonZeroUsize` would have to be unwrapped in each line that reckons with it.
 pub(crate) fn erode_in_place(line: &mut [Pixel], length: usize)
     requires { (1 ≤ length) × (length ≤ lib.ListN.length line.old) }
     ensures { ErodedFront line.old length line.new }

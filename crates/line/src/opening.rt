@@ -2,7 +2,7 @@
 ghost use Rattle.std.specs.Prelude.{◌≡◌, ◌≤◌};
 ghost use lib.ListN;
 ghost use Rattle.answer.specs.Rules.{answer};
-ghost use Rattle.answer.specs.Refusals.{settled};
+ghost use Rattle.answer.specs.Refusals.{finished};
 ghost use Rattle.line.specs.Windows.{opened};
 ghost use Rattle.line.specs.Opening.{open_rules, OpensLine};
 
@@ -12,7 +12,7 @@ use answer::{LONGEST, Refusal, is_outside};
 
 // Rules 1, 3, 6 and 7 for a line of n pixels, with `room` bytes of destination and `spare` of scratch.
 fn tested(n: usize, length: usize, room: usize, spare: usize) -> Result<(), Refusal>
-    ensures { settled result ≡ answer (open_rules n length room spare) 0 }
+    ensures { finished result ≡ answer (open_rules n length room spare) 0 }
 {
     Refusal::Size.when(is_outside(n, 1, LONGEST))?;
     Refusal::Length.when(is_outside(length, 1, LONGEST))?;
@@ -37,7 +37,7 @@ pub fn open_line(
     dst: &mut [Pixel],
     scratch: &mut [u8],
 ) -> Result<(), Refusal>
-    ensures { OpensLine src.now length dst.old dst.new scratch.old scratch.new (settled result) }
+    ensures { OpensLine src.now length dst.old dst.new scratch.old scratch.new (finished result) }
 {
     let n = src.len();
     tested(n, length, dst.len(), scratch.len())?;

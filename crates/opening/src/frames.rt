@@ -5,7 +5,7 @@ ghost use Rattle.frame.specs.Shape.{shape as frame, is_frame, needed};
 ghost use Rattle.frame.specs.Sweep.{Accepted};
 ghost use Rattle.frame.specs.Painted.{Painted};
 ghost use Rattle.opening.specs.Pixels.{opened_pixel};
-ghost use Rattle.answer.specs.Refusals.{settled};
+ghost use Rattle.answer.specs.Refusals.{finished};
 ghost use Rattle.opening.specs.Frames.{OpensFrame};
 
 use crate::Pixel;
@@ -50,7 +50,7 @@ pub fn open_frame(
     dst: &mut [Pixel],
     scratch: &mut [u8],
 ) -> Result<(), Refusal>
-    ensures { OpensFrame src.now shape d length dst.old dst.new scratch.old scratch.new (settled result) }
+    ensures { OpensFrame src.now shape d length dst.old dst.new scratch.old scratch.new (finished result) }
 {
     tested(shape, d, length, src.len(), dst.len(), scratch.len())?;
     opened_into(src, shape, d, d.pixels_for(length), shape.stride, dst);

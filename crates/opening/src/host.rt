@@ -1,6 +1,6 @@
 // The entry for the camera's host, written in C: numbers and byte slices in, one number back. The crate `opening_c` exports it.
 ghost use Rattle.std.specs.Prelude.{◌≡◌};
-ghost use Rattle.answer.specs.Refusals.{settled};
+ghost use Rattle.answer.specs.Refusals.{finished};
 ghost use Rattle.frame.specs.Direction.{dir};
 ghost use Rattle.frame.specs.Shape.{shape};
 ghost use Rattle.opening.specs.Host.{one_number, HostOpens};
@@ -15,7 +15,7 @@ const UNIT: u64 = 1 << 32;
 
 // The refusal's number times 2^32, plus the figure; a product and no shift, as the sentence has it.
 fn one_number(outcome: Result<(), Refusal>) -> u64
-    ensures { result ≡ one_number (settled outcome) }
+    ensures { result ≡ one_number (finished outcome) }
 {
     let answer = Answer::from(outcome);
     u64::from(answer.number) * UNIT + answer.figure % UNIT

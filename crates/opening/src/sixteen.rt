@@ -3,7 +3,7 @@ ghost use Rattle.std.specs.Prelude.{◌≡◌, min};
 ghost use lib.ListN;
 ghost use Rattle.frame.specs.Direction.{along};
 ghost use Rattle.frame.specs.Painted.{Painted};
-ghost use Rattle.answer.specs.Refusals.{settled};
+ghost use Rattle.answer.specs.Refusals.{finished};
 ghost use Rattle.opening.specs.Pixels.{highest_at, direction_at};
 ghost use Rattle.opening.specs.Sixteen.{FindsHighest};
 ghost use Rattle.opening.specs.Steps.{Ready};
@@ -47,7 +47,7 @@ pub fn highest(
     directions: &mut [u8],
     scratch: &mut [u8],
 ) -> Result<(), Refusal>
-    ensures { FindsHighest src.now shape length dst.old dst.new directions.old directions.new scratch.old scratch.new (settled result) }
+    ensures { FindsHighest src.now shape length dst.old dst.new directions.old directions.new scratch.old scratch.new (finished result) }
 {
     // both need as much, so the shorter one speaks for both
     let room = dst.len().min(directions.len());

@@ -35,7 +35,7 @@ use Rattle.frame.proofs.Spans.{shift_falling, shift-rising}
 use Rattle.rows.specs.declared.slant.Pass.{Pass}
 use Rattle.rows.specs.Rows as rows
 use Rattle.rows.specs.Rows.{byte_of, lane_at, PixelsAre, RowsAre, row_at, rows_by}
-use Rattle.rows.specs.Slants.{Slanted, Ready, row_start, pixel_past, is_forth, rows_on, Bends, near_only, pixel_by, paired, partner, met_at, meeting, Dark, DarkPast}
+use Rattle.rows.specs.Slants.{Slanted, MayRun, row_start, pixel_past, is_forth, rows_on, Bends, near_only, pixel_by, paired, partner, met_at, meeting, Dark, DarkPast}
 use Rattle.rows.proofs.Rowwise.{RowsApart, row_less, row-twice, row_kept, row_room, rows_more}
 use Rattle.rows.proofs.Lines.{lane_in, lane-left, lane-right, columns-pixels, pixels_as}
 use Rattle.rows.proofs.Growths.{bool_cases, paired_cases, paired-dark}
@@ -45,7 +45,7 @@ use Rattle.rows.proofs.Growths.{bool_cases, paired_cases, paired-dark}
 pub slant_room : {s : Sweep} {g : List ℕ} → Slanted s g → (forth : Bool) (t : ℕ) → t < s.minors → row_start s forth t + s.majors ≤ length g
 slant_room {s} {g} slanted forth t in' = row_room s.sidestep s.majors s.minors (length g) (row_at forth s.minors t) (row_less forth s.minors t in') slanted.room
 
-pub ready-still : {p : Pass} {b a : List ℕ} → Ready p b → length a ≡ length b → Ready p a
+pub ready-still : {p : Pass} {b a : List ℕ} → MayRun p b → length a ≡ length b → MayRun p a
 ready-still ready same =
     let slanted = ready.slanted in
     record {

@@ -17,7 +17,7 @@
 --   partner s forth m here there d g t x        the pixel that the one in column x of row t meets: 0 where there is none
 --   met_at darker s forth m here there d g t x  what it becomes
 --   forth_of, start_of, marks_of, partner_of, becomes    the same of a pass p: how it counts the rows, where row t starts, its marks, what a pixel meets and becomes
---   Ready p g                   the pass p may go over the frame that stands in g
+--   MayRun p g                   the pass p may go over the frame that stands in g
 --   meeting darker s here there g i k           the same of pixel k at the major coordinate i, by its line
 --   Dark s light g              every pixel from the major coordinate `light` on is 0
 --   DarkPast s forth t light g  the same in row t and in those past it
@@ -110,7 +110,7 @@ partner_of p t = pixel_by p.sweep (forth_of p) (marks_of p) t p.there p.step
 abbrev pub becomes : Pass → List ℕ → ℕ → ℕ → ℕ
 becomes p = met_at p.darker p.sweep (forth_of p) (marks_of p) p.here p.there p.step
 
-pub record Ready (p : Pass) (g : List ℕ) : Type 0 where
+pub record MayRun (p : Pass) (g : List ℕ) : Type 0 where
   pub slanted : Slanted p.sweep g
   pub some : p.there < p.light
   pub inside : p.here + p.light ≤ p.sweep.majors

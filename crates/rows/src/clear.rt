@@ -1,4 +1,4 @@
-// Rows that become 0.
+// Rows that become 0. `opening` clears the numbers of directions by such a loop; it has a shape, and here is none.
 ghost use Rattle.std.specs.Prelude.{ℕ, ◌+◌, ◌-◌, ◌*◌, ◌≤◌, length};
 ghost use Rattle.rows.specs.Rows.{rows_by, RowsAre};
 

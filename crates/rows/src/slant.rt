@@ -5,7 +5,7 @@ ghost use Rattle.lists.specs.Stores.{Filled};
 ghost use Rattle.frame.specs.Sweep.{Sane};
 ghost use Rattle.passes.specs.Passes.{op, met};
 ghost use Rattle.rows.specs.Rows.{RowsAre};
-ghost use Rattle.rows.specs.Slants.{Dark, DarkPast, Ready, forth_of, start_of, near_only, partner_of, becomes};
+ghost use Rattle.rows.specs.Slants.{Dark, DarkPast, MayRun, forth_of, start_of, near_only, partner_of, becomes};
 
 use crate::Pixel;
 use crate::order::row_at;
@@ -48,7 +48,7 @@ impl Pass<'_> {
 
     // The pixels of row t from column `here` on, as far as their partners stand in the light, meet these.
     fn meet_partners(&self, buf: &mut [Pixel], t: usize)
-        requires { Ready self.now buf.old × (t < self.now.sweep.minors) }
+        requires { MayRun self.now buf.old × (t < self.now.sweep.minors) }
         ensures { Filled buf.old buf.new (start_of self.now t + self.now.here) (start_of self.now t + self.now.here + (self.now.light - self.now.there)) (met (op self.now.darker) (partner_of self.now t) (start_of self.now t + self.now.here) buf.old) }
     {
         let n = self.light - self.there;
@@ -71,7 +71,7 @@ impl Pass<'_> {
 
     // Row t. Nothing is looked for in the dark, and an erosion makes those pixels dark whose partners stand there.
     fn slant(&self, buf: &mut [Pixel], t: usize)
-        requires { Ready self.now buf.old × (t < self.now.sweep.minors) × DarkPast self.now.sweep (forth_of self.now) t self.now.light buf.old }
+        requires { MayRun self.now buf.old × (t < self.now.sweep.minors) × DarkPast self.now.sweep (forth_of self.now) t self.now.light buf.old }
         ensures { Filled buf.old buf.new (start_of self.now t) (start_of self.now t + self.now.sweep.majors) (λ (x : ℕ). becomes self.now buf.old t (x - start_of self.now t)) }
     {
         let n = self.light - self.there;
@@ -86,7 +86,7 @@ impl Pass<'_> {
 
     // All rows.
     pub(crate) fn run(&self, buf: &mut [Pixel])
-        requires { Ready self.now buf.old × Dark self.now.sweep self.now.light buf.old }
+        requires { MayRun self.now buf.old × Dark self.now.sweep self.now.light buf.old }
         ensures { RowsAre (start_of self.now) self.now.sweep.majors 0 self.now.sweep.minors (becomes self.now buf.old) buf.old buf.new }
     {
         for t in 0..self.sweep.minors {

@@ -21,7 +21,7 @@ use Rattle.std.specs.Prelude.{Result, Ok, Err}
 use Rattle.std.specs.Result.{is_err}
 use Rattle.answer.specs.declared.Answer.{Answer}
 use Rattle.answer.specs.declared.Refusal.{Refusal}
-use Rattle.answer.specs.Refusals.{settled}
+use Rattle.answer.specs.Refusals.{finished}
 use Rattle.answer.proofs.Refusals.{refused_number}
 use Rattle.lists.proofs.Totals.{entry-total, table-most}
 use Rattle.answer.specs.Limits.{longest}
@@ -67,7 +67,7 @@ module _ (f : List ℕ) (sh : Shape) where
 
 -- ---- the ways out of `rose`
 
-module _ (f scratch : List ℕ) (sh : Shape) (r : Result (Unit {0}) Refusal) (e : settled r ≡ answer (rose_rules sh (length f) (length scratch)) 0) where
+module _ (f scratch : List ℕ) (sh : Shape) (r : Result (Unit {0}) Refusal) (e : finished r ≡ answer (rose_rules sh (length f) (length scratch)) 0) where
   abbrev says : Answer
   says = answer (rose_rules sh (length f) (length scratch)) 0
 
@@ -79,7 +79,7 @@ module _ (f scratch : List ℕ) (sh : Shape) (r : Result (Unit {0}) Refusal) (e 
         scratch_length = refl;
       }
     where
-      numbered : (r : Result (Unit {0}) Refusal) → is_err r ≡ true → (settled r).number ≡ 0 → ⊥
+      numbered : (r : Result (Unit {0}) Refusal) → is_err r ≡ true → (finished r).number ≡ 0 → ⊥
       numbered (Ok u) err z = true≢false (sym err)
       numbered (Err e) err z = refused_number e z
 
@@ -93,7 +93,7 @@ module _ (f scratch : List ℕ) (sh : Shape) (r : Result (Unit {0}) Refusal) (e 
         scratch_length = kept;
       }
     where
-      numbered : (r : Result (Unit {0}) Refusal) → is_err r ≡ false → (settled r).number ≡ 0
+      numbered : (r : Result (Unit {0}) Refusal) → is_err r ≡ false → (finished r).number ≡ 0
       numbered (Ok u) ok = refl
       numbered (Err e) ok = absurd (true≢false ok)
 

@@ -15,7 +15,7 @@ use Rattle.std.specs.Prelude.{◌≡◌, cond, List, [], ◌∷◌, Result, Ok, 
 use Rattle.answer.specs.declared.Refusal.{Refusal}
 use Rattle.answer.specs.declared.Refusal.TheVariants.{Bright}
 use Rattle.answer.specs.Limits.{longest}
-use Rattle.answer.specs.Refusals.{number_of}
+use Rattle.answer.specs.Refusals.{rule_of}
 use Rattle.frame.specs.declared.direction.Direction.{Direction}
 use Rattle.frame.specs.declared.shape.Shape.{Shape}
 use Rattle.frame.specs.Shape.{needed}
@@ -71,4 +71,4 @@ Exact n (Err e) = (exactest < n) × (e ≡ Bright)
 
 abbrev pub told : Result Summary Refusal → Summary
 told (Ok s) = s
-told (Err e) = refused_by (number_of e)
+told (Err e) = refused_by (rule_of e)

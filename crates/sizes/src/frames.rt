@@ -3,7 +3,7 @@ ghost use Rattle.std.specs.Prelude.{◌≡◌, ℕ, slice_index, ◌+◌, ◌-�
 ghost use Rattle.lists.specs.Tables.{table};
 ghost use Rattle.answer.specs.Limits.{longest};
 ghost use Rattle.answer.specs.Rules.{answer};
-ghost use Rattle.answer.specs.Refusals.{settled};
+ghost use Rattle.answer.specs.Refusals.{finished};
 ghost use Rattle.frame.specs.Lines.{line_count};
 ghost use Rattle.frame.specs.Shape.{scratch_for};
 ghost use Rattle.sizes.specs.Sums.{sums_of, line_at, pixel_sum, frame_sums};
@@ -24,7 +24,7 @@ pub(crate) fn tested(
     size: usize,
     spare: usize,
 ) -> Result<(), Refusal>
-    ensures { settled result ≡ answer (frame_rules shape d entries size spare) 0 }
+    ensures { finished result ≡ answer (frame_rules shape d entries size spare) 0 }
 {
     Refusal::Size.when(!shape.is_frame())?;
     Refusal::Direction.when(!d.is_direction())?;
@@ -109,7 +109,7 @@ impl View<'_> {
 
     // Bins and rest. Where a length counts pixels, those by pixels are those by length. Elsewhere only the lengths that may have light go into the table, so that a
     // small frame does not pay for many bins.
-    pub fn set_sums(&self, sums: &mut [u64], scratch: &mut [u8])
+    pub(crate) fn set_sums(&self, sums: &mut [u64], scratch: &mut [u8])
         requires { (scratch_for self.now.shape ≤ length scratch.old) × (1 ≤ length sums.old) × (length sums.old ≤ longest + 1) }
         ensures { sums.new ≡ frame_sums self.now.src.now self.now.shape self.now.d (length sums.old - 1) }
     {
@@ -146,7 +146,7 @@ pub fn sums_of_frame(
     sums: &mut [u64],
     scratch: &mut [u8],
 ) -> Result<(), Refusal>
-    ensures { SumsFrame src.now shape d sums.old sums.new scratch.old scratch.new (settled result) }
+    ensures { SumsFrame src.now shape d sums.old sums.new scratch.old scratch.new (finished result) }
 {
     tested(shape, d, sums.len(), src.len(), scratch.len())?;
     let view = View { src, shape, d };

@@ -2,7 +2,7 @@
 ghost use Rattle.std.specs.Prelude.{◌≡◌, ℕ, ◌*◌, ◌≤◌, ◌<◌, ◌^◌, length, get_or};
 ghost use Rattle.answer.specs.Limits.{longest};
 ghost use Rattle.answer.specs.Rules.{answer};
-ghost use Rattle.answer.specs.Refusals.{settled};
+ghost use Rattle.answer.specs.Refusals.{finished};
 ghost use Rattle.sizes.specs.Line.{line_rules, SumsLine};
 ghost use Rattle.sizes.specs.Steps.{entry_of, lit, Sound, Modest, Adds};
 
@@ -42,7 +42,7 @@ pub(crate) fn add_line(line: &[Pixel], sums: &mut [u64], scratch: &mut [u8])
 
 // Rules 1, 4 and 7 for a line of n pixels, with `entries` sums and `spare` bytes of scratch.
 fn tested(n: usize, entries: usize, spare: usize) -> Result<(), Refusal>
-    ensures { settled result ≡ answer (line_rules n entries spare) 0 }
+    ensures { finished result ≡ answer (line_rules n entries spare) 0 }
 {
     Refusal::Size.when(is_outside(n, 1, LONGEST))?;
     Refusal::Sums.when(is_outside(entries, 2, LONGEST + 1))?;
@@ -51,7 +51,7 @@ fn tested(n: usize, entries: usize, spare: usize) -> Result<(), Refusal>
 
 // Bins and rest of a line, the rest last: as many bins as `sums` has entries before its last. Rules 1, 4, 7.
 pub fn sums_of_line(line: &[Pixel], sums: &mut [u64], scratch: &mut [u8]) -> Result<(), Refusal>
-    ensures { SumsLine line.now sums.old sums.new scratch.old scratch.new (settled result) }
+    ensures { SumsLine line.now sums.old sums.new scratch.old scratch.new (finished result) }
 {
     tested(line.len(), sums.len(), scratch.len())?;
     sums.fill(0);

@@ -1,7 +1,7 @@
 // The rose of a frame: its size sums in the sixteen numbered directions.
 ghost use Rattle.std.specs.Prelude.{◌≡◌, length};
 ghost use Rattle.answer.specs.Rules.{answer};
-ghost use Rattle.answer.specs.Refusals.{settled};
+ghost use Rattle.answer.specs.Refusals.{finished};
 ghost use Rattle.sizes.specs.Rose.{rose_rules, Roses};
 
 use crate::Pixel;
@@ -11,7 +11,7 @@ use frame::{Direction, Shape};
 
 // How `rose` refuses the same frame and scratch. Rules 1, 5, 7: those of each row's sums, whose direction and entries break none.
 pub fn rose_refusal(src: &[Pixel], shape: Shape, scratch: &[u8]) -> Result<(), Refusal>
-    ensures { settled result ≡ answer (rose_rules shape (length src.now) (length scratch.now)) 0 }
+    ensures { finished result ≡ answer (rose_rules shape (length src.now) (length scratch.now)) 0 }
 {
     tested(shape, Direction::Along, 33, src.len(), scratch.len())
 }

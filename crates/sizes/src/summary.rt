@@ -1,6 +1,6 @@
 // The summary of bins and rest: two figures of how long what is bright is.
 ghost use Rattle.std.specs.Prelude.{◌≡◌, ℕ, ◌+◌, ◌*◌, ◌≤◌, ◌<◌, length};
-ghost use Rattle.answer.specs.Refusals.{number_of};
+ghost use Rattle.answer.specs.Refusals.{rule_of};
 ghost use Rattle.sizes.specs.Summary.{refused_by, summary_of};
 ghost use Rattle.sizes.specs.Steps.{weighed, Exact, told};
 
@@ -8,7 +8,7 @@ use answer::{LONGEST, Refusal, is_outside};
 
 // The mean length, how much of the light lies in the bins, and the number of the rule that refused the call, 0 where it is done. The number stands beside the floats,
 // as `summary_of` has it and `c_number` hands it on: a refused summary has floats too, both 0.
-#[derive(Clone, Copy)]
+#[derive(Clone, Copy, Debug, PartialEq)]
 pub struct Summary {
     pub mean: f64,
     pub share: f64,
@@ -19,7 +19,7 @@ pub struct Summary {
 const EXACTEST: u64 = 1 << 53;
 
 fn refused(refusal: Refusal) -> Summary
-    ensures { result ≡ refused_by (number_of refusal) }
+    ensures { result ≡ refused_by (rule_of refusal) }
 {
     Summary {
         mean: 0.0,

@@ -1,7 +1,7 @@
 // The list of bright stretches in a lent table.
 ghost use Rattle.std.specs.Prelude.{◌≡◌, length};
 ghost use Rattle.answer.specs.Rules.{answer};
-ghost use Rattle.answer.specs.Refusals.{counted, settled};
+ghost use Rattle.answer.specs.Refusals.{counted, finished};
 ghost use Rattle.bright.specs.Stretches.{stretches};
 ghost use Rattle.bright.specs.Listing.{list_rules, ListsLine};
 
@@ -15,7 +15,7 @@ use bright::Noted;
 // Rules 1, 7 and 8 for a line, with `room` entries of table and `spare` bytes of scratch.
 // A line has no more stretches than pixels, so they are counted only where the table has fewer entries.
 fn tested(line: &[Pixel], room: usize, spare: usize) -> Result<(), Refusal>
-    ensures { settled result ≡ answer (list_rules (length line.now) spare room (length (stretches line.now))) 0 }
+    ensures { finished result ≡ answer (list_rules (length line.now) spare room (length (stretches line.now))) 0 }
 {
     let n = line.len();
     Refusal::Size.when(is_outside(n, 1, LONGEST))?;

@@ -31,7 +31,7 @@ pub(crate) fn put(scratch: &mut [u8], i: usize, start: u16, level: Pixel)
     scratch[at + 2] = level;
 }
 
-// The level of the topmost of `depth` runs, 0 where there is none.
+// The level of the topmost of `depth` runs, 0 where there is none, as beyond the line: `top_level` of bright/specs/Reading has that 0.
 pub(crate) fn top_level(scratch: &[u8], depth: usize) -> Pixel
     requires { 4 * depth ≤ length scratch.now }
     ensures { result ≡ top_level (stack_of run8 scratch.now depth) }

@@ -11,6 +11,8 @@ const LEVELS: usize = 256;
 pub fn count(line: &[Pixel]) -> usize
     ensures { result ≡ length (stretches line.now) }
 {
+    // An array with its count beside it, and a `while` that takes from its top: how many runs a pixel ends is up to the line, and a `Vec` would be on the heap, which no
+    // call here uses.
     let mut levels: [Pixel; LEVELS] = [0; LEVELS];
     let mut depth: usize = 0;
     let mut total: usize = 0;

@@ -30,11 +30,7 @@ impl<'a> Frame<'a> {
     fn new(pixels: &'a [u8], read: Input) -> Frame<'a> {
         Frame {
             pixels,
-            shape: Shape {
-                width: read.width,
-                height: read.height,
-                stride: read.width,
-            },
+            shape: read.shape(),
             direction: Direction::numbered(read.direction),
         }
     }

@@ -3,7 +3,7 @@
 
 use answer::{LONGEST, Refusal};
 use console::{PIXELS, ROOM};
-use frame::{Direction, Shape};
+use frame::Direction;
 use std::io::Write;
 
 // What a frame's lines need of scratch.
@@ -13,11 +13,7 @@ const SCRATCH: usize = 8 * LONGEST;
 fn report(input: &[u8], out: &mut [u8]) -> Result<usize, Refusal> {
     let mut pixels = [0u8; PIXELS];
     let read = text::read_input(input, &mut pixels)?;
-    let shape = Shape {
-        width: read.width,
-        height: read.height,
-        stride: read.width,
-    };
+    let shape = read.shape();
     let direction = Direction::numbered(read.direction);
     let mut sums = [0u64; 4];
     let mut scratch = [0u8; SCRATCH];

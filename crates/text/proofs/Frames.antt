@@ -22,7 +22,7 @@ use Rattle.lists.proofs.Cases.{both_left}
 use Rattle.answer.specs.declared.Answer.{Answer}
 use Rattle.answer.specs.declared.Refusal.{Refusal}
 use Rattle.answer.specs.Rules.{answer, done, after, by_number}
-use Rattle.answer.specs.Refusals.{number_of}
+use Rattle.answer.specs.Refusals.{rule_of}
 use Rattle.answer.proofs.Rules.{kept}
 use Rattle.answer.proofs.Refusals.{refused_number}
 use Rattle.text.specs.declared.input.Input.{Input}
@@ -152,7 +152,7 @@ outcome-refused a (suc n) d w h ne = refl
 module _ (s : List ℕ) (room : ℕ) where
   pub input_refused : (e : Refusal) → (outcome (Err e)).answer ≡ answer (input_rules s room) 0 → outcome (Err e) ≡ input_of s room
   input_refused e same =
-      outcome-refused (outcome (Err e)).answer (number_of e) (direction_in s) (width_in s) (height_in s) (refused_number e)
+      outcome-refused (outcome (Err e)).answer (rule_of e) (direction_in s) (width_in s) (height_in s) (refused_number e)
       ∙ ap (λ (a : Answer). record { answer = a; direction = after a (direction_in s) 0; width = after a (width_in s) 0; height = after a (height_in s) 0 }) same
 
   pub input_done : (i : Input) → (outcome (Ok i)).answer ≡ answer (input_rules s room) 0 → i.direction ≡ direction_in s → i.width ≡ width_in s → i.height ≡ height_in s

@@ -16,7 +16,7 @@ use Rattle.answer.specs.declared.Answer.{Answer}
 use Rattle.answer.specs.declared.Refusal.{Refusal}
 use Rattle.answer.specs.Limits.{longest}
 use Rattle.answer.specs.Rules.{Rule, rule, answer, done, refusal, after, outside}
-use Rattle.answer.specs.Refusals.{number_of, needed_of}
+use Rattle.answer.specs.Refusals.{rule_of, needed_of}
 use Rattle.text.specs.declared.input.Input.{Input}
 use Rattle.text.specs.Lines.{line_text}
 use Rattle.text.specs.Reading.{largest_number, Values, no_values, before, line_of, rows_of}
@@ -71,7 +71,7 @@ pub record Outcome : Type 0 where
 
 abbrev pub outcome : Result Input Refusal → Outcome
 outcome (Ok i) = record { answer = done 0; direction = i.direction; width = i.width; height = i.height }
-outcome (Err e) = record { answer = refusal (number_of e) (needed_of e); direction = 0; width = 0; height = 0 }
+outcome (Err e) = record { answer = refusal (rule_of e) (needed_of e); direction = 0; width = 0; height = 0 }
 
 -- the three numbers of a text that is not refused; else zeros
 abbrev pub input_of : List ℕ → ℕ → Outcome

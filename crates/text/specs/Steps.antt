@@ -1,7 +1,7 @@
 -- What the private parts of reading keep to.
 --   IsNumber m r           r is the number m, and what follows it
 --   Reads m r              the same where m is there; nothing where it is not
---   Follows b s r          r is what follows the byte b at the front of s; nothing where it does not stand there
+--   StepsOver b s r          r is what follows the byte b at the front of s; nothing where it does not stand there
 --   Heads s r              r is what the first two lines of s hold, and what follows them; nothing where they are not there
 --   Stores m vs vs' r      the values m stand at the front of vs', and r is what follows them in the text; nothing where they are not there
 --   Rows m vs vs' r        the same for what ends the text
@@ -22,8 +22,8 @@ IsNumber m n = m ≡ numeral n.value n.rest.now
 abbrev pub Reads : Numeral → Option Number → Type 0
 Reads m r = MatchOption r (m.found ≡ false) (λ (n : Number). IsNumber m n)
 
-abbrev pub Follows : ℕ → List ℕ → Option (Bor (List ℕ)) → Type 0
-Follows b s r = MatchOption r (starts b s ≡ false) (λ (t : Bor (List ℕ)). s ≡ b ∷ t.now)
+abbrev pub StepsOver : ℕ → List ℕ → Option (Bor (List ℕ)) → Type 0
+StepsOver b s r = MatchOption r (starts b s ≡ false) (λ (t : Bor (List ℕ)). s ≡ b ∷ t.now)
 
 abbrev pub Heads : List ℕ → Option (Input × Bor (List ℕ)) → Type 0
 Heads s r = MatchOption r ((head_of s).found ≡ false) (λ (h : Input × Bor (List ℕ)). head_of s ≡ valued (h.0.direction ∷ h.0.width ∷ h.0.height ∷ []) h.1.now)

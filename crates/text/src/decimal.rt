@@ -1,12 +1,12 @@
 // Numbers as decimal text.
 ghost use Rattle.std.specs.Prelude.{◌≡◌, [], ◌∷◌, ◌+◌, ◌≤◌, length};
 ghost use Rattle.text.specs.Decimal.{decimal};
-ghost use Rattle.text.specs.Lines.{Fits, Puts};
+ghost use Rattle.text.specs.Lines.{HasRoom, Puts};
 
 // Writes a byte at `at`; where no bytes are lent it is only counted, so a text is measured by putting it into none. Hands back where the next byte goes.
 // Here and in what follows dst and `at` are two parameters and no type: a call then reads as one sentence, `let end = put_field(dst, count, pixels)`.
 pub(crate) fn put_byte(dst: &mut [u8], at: usize, b: u8) -> usize
-    requires { Fits dst.old at 1 }
+    requires { HasRoom dst.old at 1 }
     ensures { Puts dst.old at (b ∷ []) dst.new result }
 {
     if at < dst.len() {
@@ -42,7 +42,7 @@ fn put_digits(dst: &mut [u8], at: usize, v: u64) -> usize
 // Writes v at `at`, as `put_byte` does. Hands back where the next byte goes.
 // By hand, since std's `Display` promises these bytes only where it returns `Ok`, and not that it does; `WritesSums` and `PrintsLine` promise a text wherever it has room.
 pub(crate) fn put_number(dst: &mut [u8], at: usize, v: u64) -> usize
-    requires { Fits dst.old at (length (decimal v)) }
+    requires { HasRoom dst.old at (length (decimal v)) }
     ensures { Puts dst.old at (decimal v) dst.new result }
 {
     if dst.is_empty() {

@@ -2,20 +2,35 @@
 ghost use Rattle.std.specs.Prelude.{◌≡◌, ◌*◌, ◌≤◌, length};
 ghost use Rattle.text.specs.Inputs.{longest_input, outcome, ReadsInput};
 ghost use Rattle.text.specs.Steps.{Tests};
+ghost use Rattle.frame.specs.Shape.{shape};
 
 use crate::Pixel;
 use crate::reading::{read_head, read_rows};
 use answer::{LONGEST, Refusal, is_outside};
+use frame::Shape;
 
 // The most bytes of an input.
 pub const LONGEST_INPUT: usize = 65536;
 
 // What stands before the pixels of a frame: the direction number, the width and the height.
-#[derive(Clone, Copy)]
+#[derive(Clone, Copy, Debug, PartialEq, Eq)]
 pub struct Input {
     pub direction: usize,
     pub width: usize,
     pub height: usize,
+}
+
+impl Input {
+    // The shape of the frame, whose pixels stand row by row.
+    pub fn shape(self) -> Shape
+        ensures { result ≡ shape self.width self.height self.width }
+    {
+        Shape {
+            width: self.width,
+            height: self.height,
+            stride: self.width,
+        }
+    }
 }
 
 // The rules for a text, with `room` bytes for the pixels. The pixels go to the front of `values`.

@@ -2,7 +2,7 @@
 // A pixel takes two bytes of text at least, so a buffer of half as many pixels as the text has bytes holds them all.
 ghost use Rattle.std.specs.Prelude.{◌≡◌, ◌*◌, ◌≤◌, ◌<◌, length};
 ghost use Rattle.text.specs.Reading.{goes_on, number_on, number_of, field_of, fields_of, line_of, rows_of};
-ghost use Rattle.text.specs.Steps.{IsNumber, Reads, Follows, Heads, Stores, Rows};
+ghost use Rattle.text.specs.Steps.{IsNumber, Reads, StepsOver, Heads, Stores, Rows};
 
 use crate::Pixel;
 use crate::input::Input;
@@ -59,7 +59,7 @@ fn read_number(text: &[u8]) -> Option<Number<'_>>
 
 // What follows the byte b, where it stands at the front.
 fn behind(text: &[u8], b: u8) -> Option<&[u8]>
-    ensures { Follows b text.now result }
+    ensures { StepsOver b text.now result }
 {
     let (first, rest) = text.split_first()?;
     if *first == b { Some(rest) } else { None }

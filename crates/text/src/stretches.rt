@@ -3,7 +3,7 @@ ghost use Rattle.std.specs.Prelude.{◌≡◌, ◌*◌, ◌≤◌, nat_abs, leng
 ghost use Rattle.answer.specs.Limits.{longest};
 ghost use Rattle.bright.specs.Stretches.{stretches};
 ghost use Rattle.bright.specs.Nesting.{nested, records, enclosers_of};
-ghost use Rattle.text.specs.Lines.{Fits, Puts};
+ghost use Rattle.text.specs.Lines.{HasRoom, Puts};
 ghost use Rattle.text.specs.Stretches.{signed_text, title_text, stretch_fields, stretches_text, PrintsLine, PrintsRefusal};
 
 use crate::Pixel;
@@ -17,7 +17,7 @@ const RUNS: usize = 4 * LONGEST;
 
 // Writes a line number at `at`, as `put_byte` does. Hands back where the next byte goes.
 fn put_signed(dst: &mut [u8], at: usize, z: i64) -> usize
-    requires { Fits dst.old at (length (signed_text z)) }
+    requires { HasRoom dst.old at (length (signed_text z)) }
     ensures { Puts dst.old at (signed_text z) dst.new result }
 {
     let digits = if z < 0 { put_byte(dst, at, b'-') } else { at };
@@ -26,7 +26,7 @@ fn put_signed(dst: &mut [u8], at: usize, z: i64) -> usize
 
 // Writes the `L` line at the front, as `put_byte` does. Hands back where the next one goes.
 fn put_title(dst: &mut [u8], z: i64, pixels: usize) -> usize
-    requires { Fits dst.old 0 (length (title_text z pixels)) }
+    requires { HasRoom dst.old 0 (length (title_text z pixels)) }
     ensures { Puts dst.old 0 (title_text z pixels) dst.new result }
 {
     let letter = put_byte(dst, 0, b'L');
@@ -52,7 +52,7 @@ fn put_stretches(
     places: &[u16],
     runs: &mut [u8],
 ) -> usize
-    requires { (length line.now ≤ longest) × (4 * length line.now ≤ length runs.old) × (take (length (stretches line.now)) places.now ≡ enclosers_of (stretches line.now)) × Fits dst.old at (length (stretches_text (records (stretches line.now)))) }
+    requires { (length line.now ≤ longest) × (4 * length line.now ≤ length runs.old) × (take (length (stretches line.now)) places.now ≡ enclosers_of (stretches line.now)) × HasRoom dst.old at (length (stretches_text (records (stretches line.now)))) }
     ensures { Puts dst.old at (stretches_text (records (stretches line.now))) dst.new result }
 {
     let mut end = at;
@@ -90,7 +90,8 @@ pub fn line_text(z: i64, line: &[Pixel], dst: &mut [u8]) -> usize
     put_stretches(dst, end, line, &places, &mut runs)
 }
 
-// Writes what both programs print of a refusal to the front of dst. Hands back its bytes; where they have no room, 0, and nothing changes.
+// Writes what both programs print of a refusal to the front of dst. Hands back its bytes; where they have no room, 0, and nothing changes:
+// no `Option`, as `PrintsRefusal` has it.
 pub fn refusal_text(number: u64, dst: &mut [u8]) -> usize
     ensures { PrintsRefusal number dst.old dst.new result }
 {

@@ -1,7 +1,7 @@
 // The sums text: what the program sums prints.
 ghost use Rattle.std.specs.Prelude.{◌≡◌, ◌≤◌, length};
 ghost use Rattle.answer.specs.Refusals.{counted};
-ghost use Rattle.text.specs.Lines.{Fits, Puts};
+ghost use Rattle.text.specs.Lines.{HasRoom, Puts};
 ghost use Rattle.text.specs.Sums.{sums_text, WritesSums};
 
 use crate::lines::put_line;
@@ -9,7 +9,7 @@ use answer::{LONGEST, Refusal, is_outside};
 
 // Writes the whole text at the front, as `put_byte` does. Hands back its bytes.
 fn put_sums(dst: &mut [u8], direction: usize, sums: &[u64]) -> usize
-    requires { (1 ≤ length sums.now) × Fits dst.old 0 (length (sums_text direction sums.now)) }
+    requires { (1 ≤ length sums.now) × HasRoom dst.old 0 (length (sums_text direction sums.now)) }
     ensures { Puts dst.old 0 (sums_text direction sums.now) dst.new result }
 {
     let bins = sums.len() - 1;

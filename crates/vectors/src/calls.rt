@@ -32,6 +32,7 @@ pub(crate) enum Call {
 }
 
 impl Call {
+    // The numbers are those of the referee's file.
     pub(crate) fn numbered(number: u64) -> Option<Call> {
         Some(match number {
             1 => Call::Erode,
@@ -62,46 +63,48 @@ impl Call {
 
     // Makes the call with the arguments of a case, on as much of each buffer as the case lends.
     pub(crate) fn run(self, c: &Case, buffers: &mut Buffers<'_>) -> Got {
-        let Case {
-            shape,
-            direction,
-            line,
-            length,
-            ..
-        } = *c;
         let src = front_mut(&mut *buffers.src, c.src);
         let dst = front_mut(&mut *buffers.dst, c.dst);
         let directions = front_mut(&mut *buffers.directions, c.directions);
         let sums = front_mut(&mut *buffers.sums, c.entries());
         let scratch = front_mut(&mut *buffers.scratch, c.scratch);
         match self {
-            Call::Erode => answered(line::erode(src, length, dst)),
-            Call::Dilate => answered(line::dilate(src, length, dst)),
-            Call::OpenLine => answered(line::open_line(src, length, dst, scratch)),
+            Call::Erode => answered(line::erode(src, c.length, dst)),
+            Call::Dilate => answered(line::dilate(src, c.length, dst)),
+            Call::OpenLine => answered(line::open_line(src, c.length, dst, scratch)),
             Call::Stretches => lines::stretches(src, scratch),
             Call::Count => counted(stretch::count(src)),
             Call::Enclosers => lines::enclosers(c, src, scratch),
-            Call::Row => frames::row(src, shape, length),
-            Call::Lines => frames::lines(shape, direction),
-            Call::Turned => frames::turned(direction),
-            Call::Numbered => frames::pair(Direction::numbered(length)),
-            Call::Measures => frames::measures(shape),
-            Call::Pixels => frames::pixels(direction, length),
-            Call::Gather => answered(gathering::gather(src, shape, direction, line, dst)),
-            Call::Scatter => answered(gathering::scatter(src, shape, direction, line, dst)),
+            Call::Row => frames::row(src, c.shape, c.length),
+            Call::Lines => frames::lines(c.shape, c.direction),
+            Call::Turned => frames::turned(c.direction),
+            Call::Numbered => frames::pair(Direction::numbered(c.length)),
+            Call::Measures => frames::measures(c.shape),
+            Call::Pixels => frames::pixels(c.direction, c.length),
+            Call::Gather => answered(gathering::gather(src, c.shape, c.direction, c.line, dst)),
+            Call::Scatter => answered(gathering::scatter(src, c.shape, c.direction, c.line, dst)),
             Call::OpenFrame => answered(opening::open_frame(
-                src, shape, direction, length, dst, scratch,
+                src,
+                c.shape,
+                c.direction,
+                c.length,
+                dst,
+                scratch,
             )),
             Call::Highest => answered(opening::highest(
-                src, shape, length, dst, directions, scratch,
+                src, c.shape, c.length, dst, directions, scratch,
             )),
             Call::SumsOfLine => answered(sizes::sums_of_line(src, sums, scratch)),
             Call::SumsOfFrame => answered(sizes::sums_of_frame(
-                src, shape, direction, sums, scratch,
+                src,
+                c.shape,
+                c.direction,
+                sums,
+                scratch,
             )),
-            Call::Rose => totals::rose(src, shape, scratch),
+            Call::Rose => totals::rose(src, c.shape, scratch),
             Call::Summary => totals::summary(sums),
-            Call::SumsText => answered(text::sums_text(length, sums, dst)),
+            Call::SumsText => answered(text::sums_text(c.length, sums, dst)),
             Call::ReadInput => texts::input(src, dst),
         }
     }

@@ -9,14 +9,10 @@ use stretch::Stretch;
 const TURNS: u64 = 5001;
 
 fn check_stretch(check: u64, z: Stretch) -> u64 {
-    [
-        z.start as u64,
-        z.end as u64,
-        u64::from(z.level),
-        u64::from(z.base),
-    ]
-    .into_iter()
-    .fold(check, mixed)
+    [z.start, z.end, z.level, z.base]
+        .into_iter()
+        .map(u64::from)
+        .fold(check, mixed)
 }
 
 // The stretches one after the other: how many are found, and their checksum.

@@ -5,7 +5,7 @@ use native.Mathlib.Nat.{mod-eq_of_lt}
 use lib.ListN.{length as size}
 use mir.Facts.{to_z-of_z}
 use Rattle.answer.specs.declared.Answer.{Answer}
-use Rattle.answer.specs.Refusals.{settled}
+use Rattle.answer.specs.Refusals.{finished}
 use Rattle.frame.specs.declared.direction.Direction.{Direction}
 use Rattle.frame.specs.Direction.{dir}
 use Rattle.frame.specs.Shape.{shape}
@@ -21,7 +21,7 @@ returns c =
     let opened = c.open_frame in
     let dst = opened.new.dst in
     let scratch = opened.new.scratch in
-    let answer = settled opened.result in
+    let answer = finished opened.result in
     let opens : OpensFrame a.src.now frame (dir a.p a.q) a.length a.dst.now dst a.scratch.now scratch answer =
     subst (λ (d : Direction). OpensFrame a.src.now frame d a.length a.dst.now dst a.scratch.now scratch answer)
     (ap₂ dir (to_z-of_z fits.p) (to_z-of_z fits.q)) opened.ensures in
