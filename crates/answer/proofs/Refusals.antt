@@ -1,16 +1,18 @@
 -- What the answer of a call says of what the call handed back.
 --   decoded n f                    what a call with the number n and the figure f handed back
 --   counted_once, finished_once     no two outcomes of a call have one answer
+--   checks_once                    the test of a rule hands back one outcome alone
 --   refused_number                 no refusal has the number of a done call
 -- Assumes nothing.
 use mathlib.Core.Path.{◌≡◌, refl, sym, ap, ◌∙◌}
+use mathlib.Core.Bool.{Bool, false≢true}
 use Prim.Native.Nat.{ℕ, zero, suc}
 use native.Mathlib.Omega.{arith}
 use Rattle.std.specs.Prelude.{Result, Ok, Err}
 use Rattle.answer.specs.declared.Answer.{Answer}
 use Rattle.answer.specs.declared.Refusal.{Refusal}
 use Rattle.answer.specs.declared.Refusal.TheVariants.{Size, Direction, Length, Sums, Source, Destination, Scratch, Table, Input, Dark, Bright}
-use Rattle.answer.specs.Refusals.{rule_of, counted, finished}
+use Rattle.answer.specs.Refusals.{rule_of, counted, finished, Checks}
 
 decoded : ℕ → ℕ → Result ℕ Refusal
 decoded zero f = Ok f
@@ -55,6 +57,12 @@ decoded_finished (Err e) = ap uncounted (decoded_counted (Err e))
 
 pub finished_once : (r r' : Result (Unit {0}) Refusal) → finished r ≡ finished r' → r ≡ r'
 finished_once r r' same = sym (decoded_finished r) ∙ ap (λ (a : Answer). uncounted (decoded a.number a.figure)) same ∙ decoded_finished r'
+
+pub checks_once : (broken : Bool) (e : Refusal) (r r' : Result (Unit {0}) Refusal) → Checks broken e r → Checks broken e r' → r ≡ r'
+checks_once broken e (Ok u) (Ok v) kept kept' = refl
+checks_once broken e (Ok u) (Err d) kept refused = absurd (false≢true (sym kept ∙ refused.0))
+checks_once broken e (Err d) (Ok u) refused kept = absurd (false≢true (sym kept ∙ refused.0))
+checks_once broken e (Err d) (Err d') refused refused' = ap Err (refused.1 ∙ sym refused'.1)
 
 pub refused_number : (e : Refusal) → rule_of e ≡ 0 → ⊥
 refused_number Size z = absurd (omega arith)

@@ -2,7 +2,7 @@
 #![tactic(auto)]
 
 ghost use Rattle.std.specs.Prelude.{◌≡◌, ltb};
-ghost use Rattle.answer.specs.Rules.{outside};
+ghost use Rattle.answer.specs.Rules.{done, refusal, rule, checked, outside};
 ghost use Rattle.answer.specs.Refusals.{rule_of, needed_of, counted, finished, Checks};
 
 // The most pixels of a side, of a line and of a length, and the most bins of a size sum.
@@ -86,19 +86,51 @@ pub struct Answer {
     pub figure: u64,
 }
 
+// The library's own calls test their rules by `Refusal`, and `?`. Who builds an `Answer` by hand, as for a call of C's of its own, has these, which are public calls
+// too (docs/ENGINES.md), and take any number.
+impl Answer {
+    pub fn done(figure: u64) -> Self
+        ensures { result ≡ done figure }
+    {
+        Self { number: 0, figure }
+    }
+
+    pub fn refused(number: u32, figure: u64) -> Self
+        ensures { result ≡ refusal number figure }
+    {
+        Self { number, figure }
+    }
+
+    // The answer once a rule is checked that hands back 0: a refusal stays, and else the rule refuses where it is broken.
+    pub fn unless(self, number: u32, broken: bool) -> Self
+        ensures { result ≡ checked self (rule broken number 0) }
+    {
+        if self.number == 0 && broken {
+            Self::refused(number, 0)
+        } else {
+            self
+        }
+    }
+
+    // The same of a rule that is broken where there are fewer than are needed, and hands back how many are.
+    pub fn needing(self, number: u32, there: usize, needed: usize) -> Self
+        ensures { result ≡ checked self (rule (ltb there needed) number needed) }
+    {
+        if self.number == 0 && there < needed {
+            Self::refused(number, needed as u64)
+        } else {
+            self
+        }
+    }
+}
+
 impl From<Result<usize, Refusal>> for Answer {
     fn from(outcome: Result<usize, Refusal>) -> Answer
         ensures { result ≡ counted outcome }
     {
         match outcome {
-            Ok(count) => Answer {
-                number: 0,
-                figure: count as u64,
-            },
-            Err(refusal) => Answer {
-                number: refusal.number(),
-                figure: refusal.needed() as u64,
-            },
+            Ok(count) => Answer::done(count as u64),
+            Err(refusal) => Answer::refused(refusal.number(), refusal.needed() as u64),
         }
     }
 }

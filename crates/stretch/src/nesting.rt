@@ -12,7 +12,8 @@ use crate::{Bookmark, Nested, Pixel, Step};
 use answer::LONGEST;
 use bright::Noted;
 
-// The next stretch of a line, with the start of its encloser noted: that of the run then on top.
+// The next stretch of a line, with the start of its encloser noted: that of the run then on top. Inlined, as `next` is.
+#[inline(always)]
 pub(crate) fn next_noted(line: &[Pixel], scratch: &mut [u8], at: Bookmark) -> Option<Noted>
     ensures { Notes run8 line.now scratch.old at scratch.new result }
 {

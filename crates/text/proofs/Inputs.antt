@@ -4,6 +4,7 @@
 --   frame-read       a text in which the first two lines and the rows are found is the text of the frame that is read
 --   head_found, frame-written    in the text of a frame both are found, and the frame is read from it
 --   accepted-text, text-accepted the texts that no rule refuses are those of the frames whose numbers are in their ranges
+--   outcome_once     no two results of `read_input` have one outcome
 --   input_example    the input of document 01's example
 -- Assumes nothing.
 use mathlib.Core.Path.{◌≡◌, refl, sym, ap, ap₂, ◌∙◌}
@@ -17,16 +18,21 @@ use lib.Dec.{ltb, leb, eqb}
 use lib.ListN.{length, get_or, take, drop, take-append-drop, length-append, length-drop}
 use lib.Seq.{take_at, drop_at, length-take-le}
 use borrow.Author.Tests.{lt-ltb, le-ltb, le-leb, eqb-true, eq-eqb, not-false}
+use Rattle.std.specs.Prelude.{Result, Ok, Err}
+use Rattle.answer.specs.declared.Refusal.{Refusal}
+use Rattle.answer.specs.declared.Refusal.TheVariants.{Size}
 use Rattle.answer.specs.Limits.{longest}
 use Rattle.answer.specs.Rules.{answer, done, outside}
 use Rattle.answer.proofs.Rules.{kept, outside_not}
+use Rattle.answer.proofs.Refusals.{counted_once, refused_number}
 use Rattle.lists.specs.Members.{All}
 use Rattle.lists.proofs.Cases.{less_or_not, both, both_left, both_right}
 use Rattle.lists.proofs.Members.{all_take, all_drop}
 use Rattle.text.specs.Decimal.{digits, decimal}
 use Rattle.text.specs.Lines.{tab, feed, fields_text, line_text}
 use Rattle.text.specs.Reading.{largest_number, is_digit, goes_on, Numeral, numeral, no_numeral, number_on, number_of, starts, at_most, field_of, Values, valued, no_values, before, fields_of, ended, line_of, rows_of}
-use Rattle.text.specs.Inputs.{longest_input, rows_text, frame_text, head_of, direction_in, width_in, height_in, rows_in, input_rules}
+use Rattle.text.specs.declared.input.Input.{Input}
+use Rattle.text.specs.Inputs.{longest_input, rows_text, frame_text, head_of, direction_in, width_in, height_in, rows_in, input_rules, Outcome, outcome}
 use Rattle.text.proofs.Decimals.{decimal-one, decimal-more, decimal-some}
 use Rattle.text.proofs.Runs.{fields_least}
 use Rattle.text.proofs.Readings.{digit_facts, goes_facts}
@@ -323,6 +329,20 @@ text-accepted d w h ps room numbered wide high many dim size fit =
       ap (λ (r : Values). r.found) rows,
       ap (ltb room) area ∙ le-ltb _ _ fit,
     )
+
+-- ---- what is handed back
+
+-- a refusal is one refusal whatever a done call hands back
+abbrev refused : Result ℕ Refusal → Result Input Refusal
+refused (Ok n) = Err Size
+refused (Err e) = Err e
+
+-- so what an outcome settles is settled of the result itself
+pub outcome_once : (r r' : Result Input Refusal) → outcome r ≡ outcome r' → r ≡ r'
+outcome_once (Ok i) (Ok j) same = ap (λ (o : Outcome). Ok (record { direction = o.direction; width = o.width; height = o.height })) same
+outcome_once (Ok i) (Err e) same = absurd (refused_number e (sym (ap (λ (o : Outcome). o.answer.number) same)))
+outcome_once (Err e) (Ok i) same = absurd (refused_number e (ap (λ (o : Outcome). o.answer.number) same))
+outcome_once (Err e) (Err d) same = ap refused (counted_once (Err e) (Err d) (ap (λ (o : Outcome). o.answer) same))
 
 -- 'For the input' D 0, F 5 1, R 3 5 5 2 4
 pub input_example : frame_text 0 5 1 (3 ∷ 5 ∷ 5 ∷ 2 ∷ 4 ∷ []) ≡

@@ -13,7 +13,7 @@
 --   rows_of h w s          h lines of w pixels, and nothing after them
 --   before vs r            the numbers vs before those of r
 --   at_most, ended         a number that is in its range; numbers that a line feed follows
--- Laws: text/proofs/Readings, Goings (place by place), Inputs (what is found is there as text, and what is there as text is found).
+-- Laws: text/proofs/Readings, Goings (one value after the other), Inputs (what is found is there as text, and what is there as text is found).
 use Rattle.std.specs.Prelude.{Bool, true, false, cond, ◌&&◌, List, [], ◌∷◌, ◌++◌, ℕ, zero, suc, ◌+◌, ◌-◌, ◌*◌, eqb, leb, ltb, drop}
 use Rattle.text.specs.Lines.{tab, feed}
 

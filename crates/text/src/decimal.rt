@@ -1,10 +1,11 @@
-// Numbers as decimal text.
+// Numbers as decimal text. What writes a text is inlined up to the call that asks for it: there the compiler sees that a text which is only measured has no bytes.
 ghost use Rattle.std.specs.Prelude.{◌≡◌, [], ◌∷◌, ◌+◌, ◌≤◌, length};
 ghost use Rattle.text.specs.Decimal.{decimal};
 ghost use Rattle.text.specs.Lines.{HasRoom, Puts};
 
 // Writes a byte at `at`; where no bytes are lent it is only counted, so a text is measured by putting it into none. Hands back where the next byte goes.
 // Here and in what follows dst and `at` are two parameters and no type: a call then reads as one sentence, `let end = put_field(dst, count, pixels)`.
+#[inline(always)]
 pub(crate) fn put_byte(dst: &mut [u8], at: usize, b: u8) -> usize
     requires { HasRoom dst.old at 1 }
     ensures { Puts dst.old at (b ∷ []) dst.new result }
@@ -41,6 +42,7 @@ fn put_digits(dst: &mut [u8], at: usize, v: u64) -> usize
 
 // Writes v at `at`, as `put_byte` does. Hands back where the next byte goes.
 // By hand, since std's `Display` promises these bytes only where it returns `Ok`, and not that it does; `WritesSums` and `PrintsLine` promise a text wherever it has room.
+#[inline(always)]
 pub(crate) fn put_number(dst: &mut [u8], at: usize, v: u64) -> usize
     requires { HasRoom dst.old at (length (decimal v)) }
     ensures { Puts dst.old at (decimal v) dst.new result }

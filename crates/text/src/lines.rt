@@ -1,4 +1,4 @@
-// Lines of text: a letter, then fields, each a tab and a number, then a line feed.
+// Lines of text: a letter, then fields, each a tab and a number, then a line feed. Inlined, as the numbers are.
 ghost use Rattle.std.specs.Prelude.{◌≡◌, ◌∷◌, length};
 ghost use Rattle.text.specs.Decimal.{decimal};
 ghost use Rattle.text.specs.Lines.{tab, line_text, HasRoom, Puts};
@@ -6,6 +6,7 @@ ghost use Rattle.text.specs.Lines.{tab, line_text, HasRoom, Puts};
 use crate::decimal::{put_byte, put_number};
 
 // Writes a field at `at`, as `put_byte` does. Hands back where the next byte goes.
+#[inline(always)]
 pub(crate) fn put_field(dst: &mut [u8], at: usize, v: u64) -> usize
     requires { HasRoom dst.old at (length (tab ∷ decimal v)) }
     ensures { Puts dst.old at (tab ∷ decimal v) dst.new result }
@@ -15,6 +16,7 @@ pub(crate) fn put_field(dst: &mut [u8], at: usize, v: u64) -> usize
 }
 
 // Writes a line at `at`, as `put_byte` does. Hands back where the next one goes.
+#[inline(always)]
 pub(crate) fn put_line(dst: &mut [u8], at: usize, letter: u8, fields: &[u64]) -> usize
     requires { HasRoom dst.old at (length (line_text letter fields.now)) }
     ensures { Puts dst.old at (line_text letter fields.now) dst.new result }

@@ -8,6 +8,7 @@ use crate::lines::put_line;
 use answer::{LONGEST, Refusal, is_outside};
 
 // Writes the whole text at the front, as `put_byte` does. Hands back its bytes.
+#[inline(always)]
 fn put_sums(dst: &mut [u8], direction: usize, sums: &[u64]) -> usize
     requires { (1 ≤ length sums.now) × HasRoom dst.old 0 (length (sums_text direction sums.now)) }
     ensures { Puts dst.old 0 (sums_text direction sums.now) dst.new result }

@@ -1,8 +1,9 @@
--- One input allows one outcome, of the calls that the crates of the library make of each other: the engines and their passes. They have no rules; what
--- does not fit changes nothing.
+-- One input allows one outcome, of the calls that the crates of the library make of each other: the engines and their passes, which have no rules (what
+-- does not fit changes nothing), and the tests that rules are written with.
 --   meet_once, meet_bent-once, meet_by-once, fade_once, blacken_once, blacken_bent-once, copy_once, claim_once    the passes over pixels
 --   open_down-once, open_shallow-once                            a frame opened where it stands
 --   claim_line-once                                              a line that claims pixels
+--   test_once                                                    the test of a rule: `Refusal::when`, `unless_there`
 -- Assumes nothing.
 use mathlib.Core.Path.{◌≡◌, refl, sym, subst, ◌∙◌}
 use mathlib.Core.Bool.{Bool, true, false, ◌&&◌}
@@ -12,9 +13,13 @@ use Prim.Native.Nat.{ℕ, ◌+◌, ◌≤◌, ◌<◌}
 use native.Mathlib.Omega.{arith}
 use lib.IntN.{ℤ}
 use lib.ListN.{length, get_or}
+use Rattle.std.specs.Prelude.{Result}
 use Rattle.lists.specs.Stores.{Filled}
 use Rattle.lists.proofs.Cases.{less_or_not, both_left}
 use Rattle.lists.proofs.Stores.{filled-once}
+use Rattle.answer.specs.declared.Refusal.{Refusal}
+use Rattle.answer.specs.Refusals.{Checks}
+use Rattle.answer.proofs.Refusals.{checks_once}
 use Rattle.passes.specs.Passes.{Ahead, Fits, Parted, Meets, MeetsBent, MeetsBy, Fades, Clears, ClearsBent, Copies, Claims}
 use Rattle.frame.specs.declared.direction.Direction.{Direction}
 use Rattle.frame.specs.declared.shape.Shape.{Shape}
@@ -174,3 +179,8 @@ open_shallow-once sh d L = opens-once sh d L (shallow d)
 pub claim_line-once : {v : List ℕ} {n : ℕ} {sh : Shape} {d : Direction} {k : ℤ} {b b₁ b₂ h h₁ h₂ : List ℕ} → ClaimsLine v n sh d k b b₁ h h₁ → ClaimsLine v n sh d k b b₂ h h₂
     → (b₁ ≡ b₂) × (h₁ ≡ h₂)
 claim_line-once p q = (p.raises ∙ sym q.raises, p.names ∙ sym q.names)
+
+-- ---- the tests of rules
+
+pub test_once : (broken : Bool) (e : Refusal) (r₁ r₂ : Result (Unit {0}) Refusal) → Checks broken e r₁ → Checks broken e r₂ → r₁ ≡ r₂
+test_once = checks_once

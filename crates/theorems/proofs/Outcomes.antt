@@ -5,10 +5,12 @@
 --   open_frame-once, host_once; highest_once: both destinations
 --   list-once, next-once, enclosers_once
 --   sums_of_line-once, sums_of_frame-once, rose_once
---   sums-text-once, read_input_once, line-text-once, refusal-text-once
+--   sums-text-once, read_input_once, and of the result itself read_input_result-once, line-text-once, refusal-text-once
 -- The contract of every other call is an equation `answer ≡ definition`, which one value alone meets: `lines_of`, `line_number`, `sweep_of`, `track_of`,
--- `shift_at`, `numbered`, `turned`, `is_shallow`, `goes_down`, `is_direction`, `is_frame`, `bytes`, `scratch`, `begin`, `count`, `rose_refusal`,
--- `summarize`, `is_outside`, `growth`, `open_in_place`, `done`, `refused`, `unless`, `needing`. Engines has the calls that only other crates of the library make.
+-- `shift_at`, `pixels_for`, `count_lengths`, `is_straight`, `numbered`, `turned`, `is_shallow`, `goes_down`, `is_direction`, `is_frame`, `bytes`, `scratch`, `begin`, `count`, `rose_refusal`,
+-- `summarize`, `is_outside`, `growth`, `open_in_place`, `number`, `needed`, `done`, `refused`, `unless`, `needing`, `Answer::from`, `Input::shape`. Engines has the calls that
+-- only other crates of the library make. Where a contract speaks of `counted r`, `finished r` or `outcome r`, the result r is one too: counted_once, finished_once
+-- (answer/proofs/Refusals), outcome_once (text/proofs/Inputs).
 -- Assumes nothing.
 use mathlib.Core.Path.{◌≡◌, sym, ap, ◌∙◌}
 use mathlib.Core.Bool.{Bool}
@@ -19,6 +21,7 @@ use lib.IntN.{ℤ}
 use denote.Ref.{Bor}
 use Rattle.lists.specs.Stores.{front}
 use Rattle.answer.specs.declared.Answer.{Answer}
+use Rattle.answer.specs.declared.Refusal.{Refusal}
 use Rattle.answer.specs.Rules.{after}
 use Rattle.line.specs.Erosion.{ErodesLine}
 use Rattle.line.specs.Dilation.{DilatesLine}
@@ -27,7 +30,7 @@ use Rattle.line.proofs.Laws as line
 use Rattle.frame.specs.declared.direction.Direction.{Direction}
 use Rattle.frame.specs.declared.shape.Shape.{Shape}
 use Rattle.frame.specs.Lines.{pixels, place, line_read}
-use Rattle.std.specs.Prelude.{Option, MatchOption}
+use Rattle.std.specs.Prelude.{Option, MatchOption, Result}
 use Rattle.gathering.specs.Gathering.{Gathers}
 use Rattle.gathering.specs.Scattering.{stored, Scatters}
 use Rattle.gathering.specs.Rows.{LendsRow}
@@ -46,9 +49,10 @@ use Rattle.sizes.specs.Sums.{line_sums, frame_sums}
 use Rattle.sizes.specs.Line.{SumsLine}
 use Rattle.sizes.specs.Frame.{SumsFrame}
 use Rattle.sizes.specs.Rose.{Roses}
-use Rattle.text.specs.Inputs.{Outcome}
-use Rattle.text.specs.Inputs.{rows_in, ReadsInput}
+use Rattle.text.specs.declared.input.Input.{Input}
+use Rattle.text.specs.Inputs.{Outcome, outcome, rows_in, ReadsInput}
 use Rattle.text.specs.Stretches.{Prints, PrintsLine, PrintsRefusal}
+use Rattle.text.proofs.Inputs.{outcome_once}
 use Rattle.text.specs.Sums.{sums_text, WritesSums}
 
 -- what an answer settles of a buffer is one thing where the answers are one
@@ -139,6 +143,12 @@ pub read_input_once : {s dst dst₁ dst₂ : List ℕ} {r₁ r₂ : Outcome} →
 read_input_once {s} {dst} {r₁ = r₁} {r₂ = r₂} p q =
     let e : r₁ ≡ r₂ = p.reads ∙ sym q.reads in
     (e, alike (front (rows_in s).values dst) dst (ap (λ (r : Outcome). r.answer) e) p.written q.written)
+
+pub read_input_result-once : {s dst dst₁ dst₂ : List ℕ} (r₁ r₂ : Result Input Refusal) → ReadsInput s dst dst₁ (outcome r₁) → ReadsInput s dst dst₂ (outcome r₂)
+    → (r₁ ≡ r₂) × (dst₁ ≡ dst₂)
+read_input_result-once r₁ r₂ p q =
+    let same = read_input_once p q in
+    (outcome_once r₁ r₂ same.0, same.1)
 
 prints_once : {ok : Bool} {t dst dst₁ dst₂ : List ℕ} {n₁ n₂ : ℕ} → Prints ok t dst dst₁ n₁ → Prints ok t dst dst₂ n₂ → (n₁ ≡ n₂) × (dst₁ ≡ dst₂)
 prints_once p q = (p.bytes ∙ sym q.bytes, p.written ∙ sym q.written)

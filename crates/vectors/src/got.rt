@@ -1,6 +1,5 @@
 // What a call handed back, in the four numbers that are printed of it.
 use answer::Answer;
-use std::fmt;
 
 #[derive(Clone, Copy, Default)]
 pub(crate) struct Got {
@@ -33,17 +32,5 @@ pub(crate) fn nothing() -> Got {
     Got {
         number: 99,
         ..Got::default()
-    }
-}
-
-impl fmt::Display for Got {
-    fn fmt<W: fmt::Write>(&self, f: &mut fmt::Formatter<W>) -> fmt::Result {
-        let Got {
-            number,
-            figure,
-            first,
-            second,
-        } = *self;
-        write!(f, "{number}\t{figure}\t{first:x}\t{second:x}")
     }
 }

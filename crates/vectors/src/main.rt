@@ -32,7 +32,20 @@ fn run_case(c: &Case, buffers: &mut Buffers<'_>) -> (Got, u64) {
     (got, left)
 }
 
-// Runs the cases one after the other in the same buffers. A write that fails is passed over: then what is printed is not `stdout`.
+// Prints a case's line in two writes, the answer and then the checksums: a write that fails takes the same part of the line with it as ever. It is passed over: then
+// what is printed is not `stdout`.
+fn show(rt: &impl Print, case: u64, got: Got, left: u64) {
+    let Got {
+        number,
+        figure,
+        first,
+        second,
+    } = got;
+    let _ = print!(rt; "{case}\t{number}\t{figure}\t");
+    let _ = println!(rt; "{first:x}\t{second:x}\t{left:x}");
+}
+
+// Runs the cases one after the other in the same buffers.
 fn run(rt: &impl Print, text: &[u8], buffers: &mut Buffers<'_>) {
     let mut reader = Reader { rest: text };
     for number in 1..=MOST {
@@ -44,7 +57,7 @@ fn run(rt: &impl Print, text: &[u8], buffers: &mut Buffers<'_>) {
             reader.bytes(c.shape.width, buffers.src);
         }
         let (got, left) = run_case(&c, buffers);
-        let _ = println!(rt; "{number}\t{got}\t{left:x}");
+        show(rt, number, got, left);
     }
 }
 
