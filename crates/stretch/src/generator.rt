@@ -144,7 +144,7 @@ fn find(line: &[Pixel], scratch: &mut [u8], at: Bookmark) -> Option<Step>
 
 // The next stretch of a line and the bookmark to go on from, where a reading that `begin` began stands at `at`, its open runs in the scratch.
 // At the line's end, and handed a bookmark at which no reading can stand, it finds none and changes nothing.
-// Inlined, so that a step goes from call to caller in registers: handed back through memory it costs a reading up to half its time more.
+// Inlined, so that a step goes from call to caller in registers: handed back through memory it makes a listing take up to twice as long.
 #[inline(always)]
 pub fn next(line: &[Pixel], scratch: &mut [u8], at: Bookmark) -> Option<Step>
     ensures { Follows run8 line.now scratch.old at scratch.new result }

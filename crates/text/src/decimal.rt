@@ -1,4 +1,4 @@
-// Numbers as decimal text. What writes a text is inlined up to the call that asks for it: there the compiler sees that a text which is only measured has no bytes.
+// Numbers as decimal text. What writes a number or a line is inlined, down to its digits: where a text is only measured, the compiler sees that no bytes are lent.
 ghost use Rattle.std.specs.Prelude.{◌≡◌, [], ◌∷◌, ◌+◌, ◌≤◌, length};
 ghost use Rattle.text.specs.Decimal.{decimal};
 ghost use Rattle.text.specs.Lines.{HasRoom, Puts};

@@ -1,6 +1,5 @@
 // Reading numbers, lines and rows from the front of a text: each reading hands back what follows it, or nothing where what it looks for is not there.
 // A pixel takes two bytes of text at least, so a buffer of half as many pixels as the text has bytes holds them all.
-// What reads a field is inlined into the loop over a row, so that what is left of the text stays in registers.
 ghost use Rattle.std.specs.Prelude.{◌≡◌, ◌*◌, ◌≤◌, ◌<◌, length};
 ghost use Rattle.text.specs.Reading.{goes_on, number_on, number_of, field_of, fields_of, line_of, rows_of};
 ghost use Rattle.text.specs.Steps.{IsNumber, Reads, StepsOver, Heads, Stores, Rows};
@@ -31,7 +30,6 @@ fn goes_on(value: usize, c: u8) -> bool
 
 // The number whose value so far is `first`, and which goes on at the front of the text.
 #[tactic(auto, unfolding(crate::specs::Reading::number_on))]
-#[inline(always)]
 fn number_on(text: &[u8], first: usize) -> Number<'_>
     requires { first < 10 }
     ensures { IsNumber (number_on first text.now) result }
@@ -49,7 +47,6 @@ fn number_on(text: &[u8], first: usize) -> Number<'_>
 
 // The number at the front.
 #[tactic(auto, unfolding(crate::specs::Reading::number_of))]
-#[inline(always)]
 fn read_number(text: &[u8]) -> Option<Number<'_>>
     ensures { Reads (number_of text.now) result }
 {
@@ -61,7 +58,6 @@ fn read_number(text: &[u8]) -> Option<Number<'_>>
 }
 
 // What follows the byte b, where it stands at the front.
-#[inline(always)]
 fn behind(text: &[u8], b: u8) -> Option<&[u8]>
     ensures { StepsOver b text.now result }
 {
@@ -71,7 +67,6 @@ fn behind(text: &[u8], b: u8) -> Option<&[u8]>
 
 // The field at the front: a tab, and a number of at most `most`.
 #[tactic(auto, unfolding(crate::specs::Reading::field_of))]
-#[inline(always)]
 fn read_field(text: &[u8], most: usize) -> Option<Number<'_>>
     ensures { Reads (field_of most text.now) result }
 {
