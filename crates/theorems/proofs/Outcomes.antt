@@ -5,12 +5,13 @@
 --   open_frame-once, host_once; highest_once: both destinations
 --   list-once, next-once, enclosers_once
 --   sums_of_line-once, sums_of_frame-once, rose_once
---   sums-text-once, read_input_once, and of the result itself read_input_result-once, line-text-once, refusal-text-once
+--   sums-text-once, line-text-once, refusal-text-once; read_input_once, and read_input_result-once of the result itself
 -- The contract of every other call is an equation `answer ≡ definition`, which one value alone meets: `lines_of`, `line_number`, `sweep_of`, `track_of`,
--- `shift_at`, `pixels_for`, `count_lengths`, `is_straight`, `numbered`, `turned`, `is_shallow`, `goes_down`, `is_direction`, `is_frame`, `bytes`, `scratch`, `begin`, `count`, `rose_refusal`,
--- `summarize`, `is_outside`, `growth`, `open_in_place`, `number`, `needed`, `done`, `refused`, `unless`, `needing`, `Answer::from`, `Input::shape`. Engines has the calls that
--- only other crates of the library make. Where a contract speaks of `counted r`, `finished r` or `outcome r`, the result r is one too: counted_once, finished_once
--- (answer/proofs/Refusals), outcome_once (text/proofs/Inputs).
+-- `shift_at`, `pixels_for`, `count_lengths`, `numbered`, `turned`, `is_shallow`, `goes_down`, `is_straight`, `is_direction`, `is_frame`, `bytes`, `scratch`,
+-- `begin`, `count`, `rose_refusal`, `summarize`, `is_outside`, `growth`, `open_in_place`, `Refusal::number`, `needed`, `Answer::done`, `refused`, `unless`,
+-- `needing`, `from`, `Input::shape`. Engines has the calls that only other crates of the library make.
+-- Where a contract speaks of `counted r`, `finished r` or `outcome r`, the result r is one too: counted_once, finished_once (answer/proofs/Refusals),
+-- outcome_once (text/proofs/Inputs).
 -- Assumes nothing.
 use mathlib.Core.Path.{◌≡◌, sym, ap, ◌∙◌}
 use mathlib.Core.Bool.{Bool}
@@ -52,8 +53,8 @@ use Rattle.sizes.specs.Rose.{Roses}
 use Rattle.text.specs.declared.input.Input.{Input}
 use Rattle.text.specs.Inputs.{Outcome, outcome, rows_in, ReadsInput}
 use Rattle.text.specs.Stretches.{Prints, PrintsLine, PrintsRefusal}
-use Rattle.text.proofs.Inputs.{outcome_once}
 use Rattle.text.specs.Sums.{sums_text, WritesSums}
+use Rattle.text.proofs.Inputs.{outcome_once}
 
 -- what an answer settles of a buffer is one thing where the answers are one
 alike : {A : Type 0} (new old : A) {b₁ b₂ : A} {a₁ a₂ : Answer} → a₁ ≡ a₂ → b₁ ≡ after a₁ new old → b₂ ≡ after a₂ new old → b₁ ≡ b₂

@@ -32,8 +32,8 @@ fn run_case(c: &Case, buffers: &mut Buffers<'_>) -> (Got, u64) {
     (got, left)
 }
 
-// Prints a case's line in two writes, the answer and then the checksums: a write that fails takes the same part of the line with it as ever. It is passed over: then
-// what is printed is not `stdout`.
+// Prints a case's line in two writes, the answer and then the checksums: one that fails is passed over, and the other still prints its part. Then what is printed is
+// not `stdout`.
 fn show(rt: &impl Print, case: u64, got: Got, left: u64) {
     let Got {
         number,
